@@ -1,0 +1,12 @@
+pub mod formers
+pub mod Columns
+pub mod Cond
+pub mod Csv
+pub mod Heads
+pub mod Integer
+pub mod Lines
+pub mod RoomyText
+pub mod RowSet
+pub mod Tables
+pub mod Value
+pub mod ValueLaws
