@@ -1,0 +1,5 @@
+pub mod Gained
+pub mod Moments
+mod Crashed
+mod LogKept
+mod Syncs

@@ -1,0 +1,11 @@
+pub mod Causes
+pub mod Files
+pub mod Sink
+pub mod Crash
+pub mod Disk
+pub mod Pair
+pub mod Images
+pub mod Kept
+pub mod Log
+pub mod Memory
+pub mod Recorded
