@@ -1,0 +1,6 @@
+pub mod Accepted
+pub mod Causes
+pub mod CoverNumbers
+pub mod Lists
+pub mod Places
+pub mod Ranges

@@ -1,0 +1,10 @@
+pub mod Changes
+pub mod Constraints
+pub mod Cycles
+pub mod EmptyMark
+pub mod Heads
+pub mod Legality
+pub mod Reconstruction
+pub mod RuleWords
+pub mod Rules
+pub mod Warehouse

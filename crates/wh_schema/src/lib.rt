@@ -1,0 +1,26 @@
+//! Specifications: relations with one key each, inclusions and views, their rules, and what they mean over the sources.
+#![tactic(auto)]
+
+mod adding;
+mod broken;
+mod check;
+mod cycle;
+mod fault;
+mod inclusion_rules;
+mod names;
+mod piece;
+mod raw;
+mod rules;
+mod spec;
+mod table_heads;
+mod words;
+
+pub use broken::Broken;
+pub use check::check_spec;
+pub use fault::{LimitWord, SpecCause, SpecFault};
+pub use piece::{Piece, PieceSource};
+pub use raw::{RawAttrs, RawInclusion, RawRelation, RawSpec, RawStatement, RawView};
+pub use spec::{Inclusion, Relation, Spec, View};
+pub use table_heads::heads;
+pub use wh_base::{Head, Heads};
+pub use words::put_rule_words;
