@@ -1,0 +1,3 @@
+pub mod Acceptance
+pub mod Example
+pub mod Laws
