@@ -1,0 +1,5 @@
+pub mod Causes
+pub mod Front
+pub mod Lexed
+pub mod Lexes
+pub mod Spelling
