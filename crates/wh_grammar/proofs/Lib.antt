@@ -1,0 +1,15 @@
+pub mod GrammarLemmas
+pub mod CondLemmas
+pub mod NestingLemmas
+pub mod DepthLemmas
+pub mod ScannedLemmas
+pub mod DataLemmas
+pub mod CondDataLemmas
+pub mod RoundTrip
+pub mod PrintedLemmas
+pub mod NestSteps
+pub mod Segments
+pub mod PrintTrip
+pub mod Spelt
+pub mod Worded
+pub mod WordedParts

@@ -1,0 +1,11 @@
+-- What a cursor shows, and what it keeps.
+use Rattle.std.specs.Prelude.{All}
+use Rattle.wh_lex.specs.Lexes.{IsWithin}
+use Rattle.wh_grammar.specs.declared.cursor.Cursor.TheInside.{Inside}
+use Rattle.wh_grammar.specs.Grammar.{Input, start_of}
+
+abbrev pub input_of : Inside → Input
+input_of c = start_of c.text.now c.ahead.now
+
+abbrev pub AreWithin : Inside → Type 0
+AreWithin c = All (IsWithin c.text.now) c.ahead.now

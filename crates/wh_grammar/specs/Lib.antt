@@ -1,0 +1,14 @@
+pub mod Symbols
+pub mod Grammar
+pub mod Cursor
+pub mod TextFaults
+pub mod Nesting
+pub mod Scanned
+pub mod Conditions
+pub mod Depth
+pub mod GrammarData
+pub mod ConditionData
+pub mod Printed
+pub mod Printing
+pub mod RoundTrip
+pub mod Printable
