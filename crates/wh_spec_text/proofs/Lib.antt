@@ -1,0 +1,12 @@
+pub mod StatementLemmas
+pub mod TextLemmas
+pub mod SpecificationLemmas
+pub mod StatementTrip
+pub mod TextTrip
+pub mod StatementWords
+pub mod NameLists
+pub mod FurtherRelation
+pub mod Reordered
+pub mod SpecTextLemmas
+pub mod PrintedLemmas
+pub mod TextualLemmas
