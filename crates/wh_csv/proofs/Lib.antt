@@ -1,0 +1,5 @@
+pub mod FieldLemmas
+pub mod RecordFields
+pub mod RecordsLeft
+pub mod RowLemmas
+pub mod LineLemmas
