@@ -1,0 +1,11 @@
+pub mod Rename
+pub mod Meaning
+pub mod Narrowed
+pub mod SameTable
+pub mod Typing
+pub use Rattle.wh_base.specs.Columns
+pub use Rattle.wh_base.specs.Cond
+pub use Rattle.wh_base.specs.Heads
+pub use Rattle.wh_base.specs.RowSet
+pub use Rattle.wh_base.specs.Tables
+pub use Rattle.wh_base.specs.Value
