@@ -1,0 +1,140 @@
+//! Prints expressions.
+ghost use Rattle.std.specs.Prelude.{◌≡◌, ◌≤◌, ◌+◌, ◌++◌, ℕ, List, length, OnOk, OnErr};
+ghost use Rattle.std.specs.List.{flat_map};
+ghost use Rattle.wh_base.specs.declared.head.Head.{Head};
+ghost use Rattle.wh_base.specs.Lines.{separated_by};
+ghost use Rattle.wh_query_text.specs.Printed.{placed, name_at, list_mark, names_text, renaming_text, renamings_text, expr_shown, expr_text};
+
+use crate::conditions::put_cond;
+use std::alloc::Global;
+use wh_base::{ByteText, Heads, Name, NoMemory, put_names};
+use wh_expr::{Expr, Renaming};
+
+const LIST_MARK: &[u8] = b", ";
+
+/// The name of a number, or nothing past the last one.
+pub fn name_at(heads: &Heads, number: u32) -> &[u8]
+    ensures { result.now ≡ name_at heads.now number }
+{
+    match heads.get(number as usize) {
+        Some(head) => head.name.as_slice(),
+        None => &[],
+    }
+}
+
+fn put_renaming(out: &mut ByteText, renaming: &Renaming) -> Result<(), NoMemory>
+    ensures { OnOk result (out.new.bytes ≡ out.old.bytes ++ renaming_text renaming.now) }
+{
+    out.append(renaming.from.as_slice())?;
+    out.append(b" to ")?;
+    out.append(renaming.to.as_slice())
+}
+
+fn put_more_renamings(out: &mut ByteText, renamings: &[Renaming]) -> Result<(), NoMemory>
+    ensures { OnOk result (out.new.bytes ≡ out.old.bytes ++ flat_map (λ p. list_mark ++ renaming_text p) renamings.now) }
+{
+    for renaming in renamings {
+        out.append(LIST_MARK)?;
+        put_renaming(out, renaming)?;
+    }
+    Ok(())
+}
+
+fn put_renamings(out: &mut ByteText, renamings: &[Renaming]) -> Result<(), NoMemory>
+    ensures { OnOk result (out.new.bytes ≡ out.old.bytes ++ renamings_text renamings.now) }
+{
+    let [first, rest @ ..] = renamings else {
+        return Ok(());
+    };
+    put_renaming(out, first)?;
+    put_more_renamings(out, rest)
+}
+
+/// How tightly an expression binds.
+fn level(e: &Expr) -> u8
+    ensures { (heads : List Head) → result ≡ (expr_shown heads e.now).level }
+{
+    match e {
+        Expr::Union(_, _) | Expr::Minus(_, _) => 1,
+        Expr::Join(_, _) => 2,
+        Expr::Base(_) | Expr::Select(_, _) | Expr::Project(_, _) | Expr::Rename(_, _) => 3,
+    }
+}
+
+/// Appends an expression, in parentheses where it binds less tightly than its place needs.
+#[cycle(expressions)]
+fn put_placed(
+    alloc: Global,
+    out: &mut ByteText,
+    least: u8,
+    e: &Expr,
+    heads: &Heads,
+) -> Result<(), NoMemory>
+    ensures { OnOk result (out.new.bytes ≡ out.old.bytes ++ placed least (expr_shown heads.now e.now)) }
+{
+    if level(e) < least {
+        out.push(b'(')?;
+        put_expr(alloc, out, e, heads)?;
+        out.push(b')')
+    } else {
+        put_expr(alloc, out, e, heads)
+    }
+}
+
+#[cycle(expressions)]
+fn put_expr(alloc: Global, out: &mut ByteText, e: &Expr, heads: &Heads) -> Result<(), NoMemory>
+    ensures { OnOk result (out.new.bytes ≡ out.old.bytes ++ (expr_shown heads.now e.now).text) }
+{
+    match e {
+        Expr::Base(number) => out.append(name_at(heads, *number)),
+        Expr::Select(cond, child) => {
+            out.append(b"select (")?;
+            put_cond(alloc, out, cond)?;
+            out.append(b") ")?;
+            put_placed(alloc, out, 3, child.get(), heads)
+        }
+        Expr::Project(names, child) => {
+            out.append(b"project (")?;
+            put_names(out, LIST_MARK, names.as_slice())?;
+            out.append(b") ")?;
+            put_placed(alloc, out, 3, child.get(), heads)
+        }
+        Expr::Rename(renamings, child) => {
+            out.append(b"rename (")?;
+            put_renamings(out, renamings.as_slice())?;
+            out.append(b") ")?;
+            put_placed(alloc, out, 3, child.get(), heads)
+        }
+        Expr::Join(left, right) => {
+            put_placed(alloc, out, 2, left.get(), heads)?;
+            out.append(b" join ")?;
+            put_placed(alloc, out, 3, right.get(), heads)
+        }
+        Expr::Union(left, right) => {
+            put_placed(alloc, out, 1, left.get(), heads)?;
+            out.append(b" union ")?;
+            put_placed(alloc, out, 2, right.get(), heads)
+        }
+        Expr::Minus(left, right) => {
+            put_placed(alloc, out, 1, left.get(), heads)?;
+            out.append(b" minus ")?;
+            put_placed(alloc, out, 2, right.get(), heads)
+        }
+    }
+}
+
+/// Appends an expression with the fewest parentheses. Its numbers are printed as the names that `heads` has for them, and a number past the last one as nothing.
+pub fn print_expr(
+    alloc: Global,
+    e: &Expr,
+    heads: &Heads,
+    out: &mut ByteText,
+) -> Result<(), NoMemory>
+    ensures ok { OnOk result (out.new.bytes ≡ out.old.bytes ++ expr_text heads.now e.now) }
+    ensures err { OnErr result (out.new.bytes ≡ out.old.bytes) }
+    ensures spare { out.old.spare ≤ out.new.spare + length (expr_text heads.now e.now) }
+{
+    let mut text = ByteText::new(alloc);
+    put_expr(alloc, &mut text, e, heads)?;
+    out.append(text.as_bytes())
+}
