@@ -1,0 +1,17 @@
+//! Rows under numbers, the operations of the algebra on rows in memory, and the evaluation of expressions.
+#![tactic(auto)]
+
+mod base;
+mod evaluate;
+mod join;
+mod lists;
+mod look_up;
+mod once;
+mod relation;
+mod rows;
+
+pub use base::Base;
+pub use evaluate::{eval, eval_where};
+pub use lists::Lists;
+pub use relation::{Relation, join_all};
+pub use rows::{append, cut_all, pick_all, rows_without, without};
