@@ -1,0 +1,5 @@
+pub mod Appended
+pub mod Fields
+pub mod Frames
+pub mod Loop
+pub mod Tables
