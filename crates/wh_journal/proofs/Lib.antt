@@ -1,0 +1,6 @@
+pub mod Clears
+pub mod Framing
+pub mod Grammar
+pub mod Told
+pub mod Torn
+pub mod Walks
