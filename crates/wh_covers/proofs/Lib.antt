@@ -1,0 +1,2 @@
+mod CoverLemmas
+pub mod NumberLemmas
