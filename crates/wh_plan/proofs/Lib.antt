@@ -1,0 +1,5 @@
+mod ColumnLemmas
+mod ExprMeaning
+pub mod HeldLemmas
+pub mod OrderLemmas
+mod PlanLemmas
