@@ -1,0 +1,5 @@
+mod BreakLemmas
+pub mod DistinctLemmas
+mod PieceLemmas
+mod RepeatLemmas
+mod SourceLemmas

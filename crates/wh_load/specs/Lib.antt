@@ -1,0 +1,3 @@
+pub mod Load
+pub mod Repeats
+pub mod Sources
