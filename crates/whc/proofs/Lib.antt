@@ -1,0 +1,6 @@
+pub mod Dumps
+pub mod Follows
+pub mod Numbered
+pub mod Shown
+pub mod Shows
+pub mod Texts

@@ -1,0 +1,32 @@
+use Rattle.std.proofs.Common.{◌≡◌, ◌∙◌, ◌++◌, ◌∷◌, [], List, Option, Some, None, IfSome, refl, sym, ap, subst, ℕ, drop, ◌+◌}
+use Rattle.wh_io.specs.Files.{Held}
+use Rattle.wh_load.specs.Load.{HasDistinctRows}
+use Rattle.wh_schema.specs.Warehouse.{State}
+use Rattle.whc.specs.Inputs.{dump_files}
+use Rattle.whc.proofs.Dumps.{found_more, found_none, next_more, next_none, distinct_push, distinct_none}
+use Rattle.whc.proofs.inputs.read_dumps.Goals as goal
+
+pub loop-relation-init : goal.loop-relation-init
+loop-relation-init g c = record {
+  same = refl;
+  faults = refl;
+  distinct = distinct_none c.new-state.result c.new-state.ensures;
+  found = found_none c.args.dir.now c.args.relations.now c.new-state.result c.new-state.ensures _;
+  next = next_none c.args.dir.now c.args.relations.now _;
+}
+
+pub loop-relation-preserved : goal.loop-relation-preserved
+loop-relation-preserved g c =
+    let dir = c.args.dir.now in
+    let relations = c.args.relations.now in
+    let i = c.loop-relation.relation-index in
+    let loop = c.loop-relation.invariant in
+    let read = c.in-Ok.ensures in
+    let pushed = c.in_ok-push-in-Ok.ensures.ok in
+    record {
+      same = read.same ∙ loop.same;
+      faults = read.cause ∙ loop.faults;
+      distinct = distinct_push c.loop-relation.state c.push.new.self c.in-Ok.rows pushed loop.distinct read.distinct;
+      found = found_more dir relations i c.relation-item.result c.loop-relation-test.true c.relation-item.is c.in-Ok.rows _ _ c.loop-relation.state c.push.new.self pushed loop.same read.answer loop.found;
+      next = next_more dir relations i c.relation-item.result c.loop-relation-test.true c.relation-item.is c.in-Ok.rows _ _ loop.same read.answer loop.next;
+    }

@@ -1,0 +1,11 @@
+pub mod Commands
+pub mod Ends
+pub mod Inputs
+pub mod Laws
+pub mod Outcome
+pub mod Plan
+pub mod Run
+pub mod Show
+pub mod Steps
+pub mod Stop
+pub mod Words

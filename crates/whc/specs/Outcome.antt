@@ -1,0 +1,54 @@
+-- What a command comes to, piece by piece.
+use Rattle.std.specs.Prelude.{◌≡◌, ℕ, zero, suc, ◌≤◌, List, [], ◌∷◌, length, map, Result, Ok, Err}
+use Rattle.std.specs.List.{flat_map}
+use Rattle.whc.specs.declared.status.Status.{Status}
+use Rattle.whc.specs.declared.status.Status.TheVariants as status
+use Rattle.whc.specs.declared.stop.Stop.{Stop}
+
+-- what the two files of a store hold
+pub record World : Type 0 where
+  pub first : List ℕ
+  pub second : List ℕ
+
+abbrev pub image : List ℕ → List ℕ → World
+image first second = record { first = first; second = second }
+
+-- a text for `out`, and the state that stands once it is written
+pub record Piece : Type 0 where
+  pub text : List ℕ
+  pub state : World
+
+-- the state at the beginning, the pieces in their order, and a status or what stops the command
+pub record Outcome : Type 0 where
+  pub start : World
+  pub pieces : List Piece
+  pub finish : Result Status Stop
+
+abbrev pub texts : List Piece → List ℕ
+texts pieces = flat_map (λ (piece : Piece). piece.text) pieces
+
+-- the state after the first k pieces
+abbrev pub state_after : World → List Piece → ℕ → World
+state_after start pieces zero = start
+state_after start [] (suc k) = start
+state_after start (piece ∷ pieces) (suc k) = state_after piece.state pieces k
+
+-- the state after all of them
+abbrev pub last_state : World → List Piece → World
+last_state start [] = start
+last_state start (piece ∷ pieces) = last_state piece.state pieces
+
+-- the text of piece k, the first being 0
+abbrev pub text_at : List Piece → ℕ → List ℕ
+text_at [] k = []
+text_at (piece ∷ pieces) zero = piece.text
+text_at (piece ∷ pieces) (suc k) = text_at pieces k
+
+-- nothing is done but to refuse
+abbrev pub refused : World → Stop → Outcome
+refused start stop = record { start = start; pieces = []; finish = Err stop }
+
+-- texts alone: the state stays
+abbrev pub stays : World → Result (List (List ℕ)) Stop → Outcome
+stays start (Ok rows) = record { start = start; pieces = map (λ (row : List ℕ). record { text = row; state = start }) rows; finish = Ok status.Ok }
+stays start (Err stop) = refused start stop

@@ -1,0 +1,47 @@
+-- The words of refusals.
+use Rattle.std.specs.Prelude.{ℕ, ◌-◌, nat_lt, if◌then◌else◌, List, ◌++◌, length, codes, decimal}
+use Rattle.wh_base.specs.Lines.{separated, csv_record}
+use Rattle.wh_csv.specs.declared.fault.CsvCause.{CsvCause}
+use Rattle.wh_csv.specs.Words.{cause_words}
+use Rattle.wh_schema.specs.declared.broken.Broken.{Broken}
+use Rattle.wh_schema.specs.declared.spec.Inclusion.{Inclusion}
+use Rattle.wh_schema.specs.declared.spec.Relation.{Relation}
+use Rattle.wh_schema.specs.declared.spec.Spec.{Spec}
+use Rattle.wh_schema.specs.Warehouse.{relation_at, inclusion_at}
+
+-- a dump outside its grammar
+abbrev pub dump_words : List ℕ → ℕ → CsvCause → List ℕ
+dump_words file at cause = file ++ codes ": record " ++ decimal at ++ codes ": " ++ cause_words cause
+
+-- a relation with too many pieces
+abbrev pub pieces_words : List ℕ → ℕ → List ℕ
+pieces_words name count = codes "relation " ++ name ++ codes " has " ++ decimal count ++ codes " pieces"
+
+-- columns in parentheses, and behind a relation's name
+abbrev pub list_words : List (List ℕ) → List ℕ
+list_words columns = codes "(" ++ separated (codes ", ") columns ++ codes ")"
+
+abbrev pub columns_words : List ℕ → List (List ℕ) → List ℕ
+columns_words name columns = name ++ list_words columns
+
+-- the word and the number of a constraint, and the value that breaks it
+abbrev pub number_words : List ℕ → ℕ → List ℕ
+number_words word number = word ++ decimal number ++ codes " "
+
+abbrev pub value_words : List ℕ → Broken → List ℕ
+value_words word b = word ++ csv_record b.value ++ codes ")"
+
+abbrev pub key_words : Relation → Broken → List ℕ
+key_words r b = number_words (codes "key ") b.constraint ++ columns_words r.name r.key ++ value_words (codes " twice (") b
+
+abbrev pub inclusion_words : Spec → Inclusion → Broken → List ℕ
+inclusion_words spec c b =
+    number_words (codes "inclusion ") b.constraint ++ columns_words (relation_at spec c.from).name c.from_cols
+    ++ codes " in " ++ columns_words (relation_at spec c.to).name c.to_cols ++ value_words (codes " lacks (") b
+
+-- constraints are numbered from 1: keys in relation order, then inclusions in declared order
+abbrev pub broken_words : Spec → Broken → List ℕ
+broken_words spec b =
+    if nat_lt (b.constraint - 1) (length spec.relations)
+    then key_words (relation_at spec (b.constraint - 1)) b
+    else inclusion_words spec (inclusion_at spec (b.constraint - 1 - length spec.relations)) b
