@@ -211,5 +211,19 @@ view V(a, b) = E where not (a = -7 or b < 'it''s' and (a = 1 and 1 <> a));
 view W(b, a) = F join E;
 "
     );
+    let text = b"relation Emp(clerk text, age int) key (clerk);
+relation Sale(item text, clerk text) key (item, clerk);
+view Sold = Sale join Emp;
+";
+    let spec = parse_spec(rt.alloc(), text).ok().ok_or("refused")?;
+    let mut out = ByteText::new(rt.alloc());
+    print_spec(rt.alloc(), &spec, &mut out)?;
+    assert_eq!(rt;
+        str::from_utf8(out.as_bytes())?,
+        "relation Emp(clerk text, age int) key (clerk);
+relation Sale(item text, clerk text) key (item, clerk);
+view Sold(item, clerk, age) = Sale join Emp;
+"
+    );
     Ok(())
 }

@@ -204,6 +204,58 @@ inverse: C_Pick
 key probes: 1
 ";
 
+// An inclusion between columns of other names, declared twice: two pieces, and each is a cover.
+const REFS: &[u8] = b"relation Item(sku int) key (sku); relation Line(line int, ref int) key (line);
+inclusion Line(ref) in Item(sku); inclusion Line(ref) in Item(sku);
+";
+
+const PLAN_REFS: &str = "order: Line, Item
+relation Item
+piece 1: rename (ref to sku) project (ref) Line
+piece 2: rename (ref to sku) project (ref) Line
+cover: 1
+cover: 2
+inverse: C_Item union rename (ref to sku) project (ref) Line union rename (ref to sku) project (ref) Line
+key probes: not stated
+relation Line
+inverse: C_Line
+key probes: 1
+";
+
+const PIECES_12: &[u8] = b"relation R(k int, a int) key (k);
+view V1 = R; view V2 = R; view V3 = R; view V4 = R; view V5 = R; view V6 = R; view V7 = R;
+view V8 = R; view V9 = R; view V10 = R; view V11 = R; view V12 = R;";
+
+const PLAN_12: &str = "order: R
+relation R
+piece 1: project (k, a) V1
+piece 2: project (k, a) V2
+piece 3: project (k, a) V3
+piece 4: project (k, a) V4
+piece 5: project (k, a) V5
+piece 6: project (k, a) V6
+piece 7: project (k, a) V7
+piece 8: project (k, a) V8
+piece 9: project (k, a) V9
+piece 10: project (k, a) V10
+piece 11: project (k, a) V11
+piece 12: project (k, a) V12
+cover: 1
+cover: 2
+cover: 3
+cover: 4
+cover: 5
+cover: 6
+cover: 7
+cover: 8
+cover: 9
+cover: 10
+cover: 11
+cover: 12
+inverse: C_R union project (k, a) V1 union project (k, a) V2 union project (k, a) V3 union project (k, a) V4 union project (k, a) V5 union project (k, a) V6 union project (k, a) V7 union project (k, a) V8 union project (k, a) V9 union project (k, a) V10 union project (k, a) V11 union project (k, a) V12
+key probes: 13
+";
+
 const CYCLE: &[u8] =
     b"relation A(x int) key (x); relation B(x int) key (x); relation C(x int) key (x);
 inclusion A(x) in B(x); inclusion B(x) in C(x); inclusion C(x) in A(x);";
@@ -274,6 +326,8 @@ fn stored_tables_are_printed(rt: HostRuntime) -> Result<(), Fail> {
         printed(&["plan", "s"], &[("s", HEADS)], PLAN_HEADS),
         printed(&["plan", "s"], &[("s", ITEMS)], PLAN_ITEMS),
         printed(&["plan", "s"], &[("s", PICKS)], PLAN_PICKS),
+        printed(&["plan", "s"], &[("s", REFS)], PLAN_REFS),
+        printed(&["plan", "s"], &[("s", PIECES_12)], PLAN_12),
         printed(&["plan", "s"], &[("s", b"")], "order: \n"),
         printed(SHOW, &[("s", b"")], ""),
         printed(SHOW, &[("s", b"\xef\xbb\xbf -- nothing\r\n\t")], ""),
