@@ -3,7 +3,8 @@ ghost use Rattle.wh_base.specs.RowSet.{in_order};
 ghost use Rattle.wh_base.specs.Tables.{project, join_all, with_columns};
 ghost use Rattle.wh_covers.specs.Covers.{IsNumbered};
 ghost use Rattle.wh_eval.specs.Relation.{table_of as table};
-ghost use Rattle.wh_load.specs.Sources.{AreViews, IsHeld, AreHeld, AreNumbers};
+ghost use Rattle.wh_load.specs.Sources.{AreViews};
+ghost use Rattle.wh_plan.specs.Held.{IsHeld, AreHeld, AreNumbers};
 ghost use Rattle.wh_plan.specs.Plan.{IsPlan};
 ghost use Rattle.wh_schema.specs.Warehouse.{sources_of, piece_table, pieces_at, covered, complement, table_of, numbers, no_piece};
 

@@ -3,8 +3,9 @@ use Rattle.std.specs.List.{flat_map}
 use Rattle.std.proofs.lemmas.List.{take_all}
 use Rattle.wh_schema.proofs.CoverNumbers.{cover_numbers_are}
 use Rattle.wh_schema.specs.Warehouse.{columns_of, pieces, pieces_at, cover_numbers, joined_pieces, sources_of}
-use Rattle.wh_load.specs.Sources.{AreHeld, AreNumbers}
-use Rattle.wh_load.proofs.PieceLemmas.{pieces_held, cover_numbers_held, flat_map-map}
+use Rattle.wh_plan.specs.Held.{AreHeld, AreNumbers}
+use Rattle.wh_load.proofs.PieceLemmas.{flat_map-map}
+use Rattle.wh_plan.proofs.HeldLemmas.{pieces_held, cover_numbers_held}
 use Rattle.wh_load.proofs.pieces.covered_rows.Goals as goal
 
 pub joined_pieces-requires-clause-held : goal.joined_pieces-requires-clause-held

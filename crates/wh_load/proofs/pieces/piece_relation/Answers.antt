@@ -2,7 +2,7 @@ use Rattle.std.proofs.Common.{◌∙◌, sym, ap, subst}
 use Rattle.std.proofs.lemmas.Result.{IfOk-weaker}
 use Rattle.wh_base.specs.Tables.{project}
 use Rattle.wh_schema.specs.Warehouse.{piece_base, sources_of}
-use Rattle.wh_load.specs.Sources.{IsHeld}
+use Rattle.wh_plan.specs.Held.{IsHeld}
 use Rattle.wh_load.proofs.PieceLemmas.{view_within, view_is}
 use Rattle.wh_load.proofs.pieces.piece_relation.Goals as goal
 
