@@ -5,10 +5,10 @@ ghost use Rattle.wh_base.specs.declared.head.Head.{Head};
 ghost use Rattle.wh_base.specs.Lines.{separated_by};
 ghost use Rattle.wh_query_text.specs.Printed.{placed, name_at, list_mark, names_text, renaming_text, renamings_text, expr_shown, expr_text};
 
-use crate::conditions::put_cond;
 use std::alloc::Global;
 use wh_base::{ByteText, Heads, Name, NoMemory, put_names};
 use wh_expr::{Expr, Renaming};
+use wh_grammar::print_cond;
 
 const LIST_MARK: &[u8] = b", ";
 
@@ -63,62 +63,56 @@ fn level(e: &Expr) -> u8
 
 /// Appends an expression, in parentheses where it binds less tightly than its place needs.
 #[cycle(expressions)]
-fn put_placed(
-    alloc: Global,
-    out: &mut ByteText,
-    least: u8,
-    e: &Expr,
-    heads: &Heads,
-) -> Result<(), NoMemory>
+fn put_placed(out: &mut ByteText, least: u8, e: &Expr, heads: &Heads) -> Result<(), NoMemory>
     ensures { OnOk result (out.new.bytes ≡ out.old.bytes ++ placed least (expr_shown heads.now e.now)) }
 {
     if level(e) < least {
         out.push(b'(')?;
-        put_expr(alloc, out, e, heads)?;
+        put_expr(out, e, heads)?;
         out.push(b')')
     } else {
-        put_expr(alloc, out, e, heads)
+        put_expr(out, e, heads)
     }
 }
 
 #[cycle(expressions)]
-fn put_expr(alloc: Global, out: &mut ByteText, e: &Expr, heads: &Heads) -> Result<(), NoMemory>
+fn put_expr(out: &mut ByteText, e: &Expr, heads: &Heads) -> Result<(), NoMemory>
     ensures { OnOk result (out.new.bytes ≡ out.old.bytes ++ (expr_shown heads.now e.now).text) }
 {
     match e {
         Expr::Base(number) => out.append(name_at(heads, *number)),
         Expr::Select(cond, child) => {
             out.append(b"select (")?;
-            put_cond(alloc, out, cond)?;
+            print_cond(out, cond)?;
             out.append(b") ")?;
-            put_placed(alloc, out, 3, child.get(), heads)
+            put_placed(out, 3, child.get(), heads)
         }
         Expr::Project(names, child) => {
             out.append(b"project (")?;
             put_names(out, LIST_MARK, names.as_slice())?;
             out.append(b") ")?;
-            put_placed(alloc, out, 3, child.get(), heads)
+            put_placed(out, 3, child.get(), heads)
         }
         Expr::Rename(renamings, child) => {
             out.append(b"rename (")?;
             put_renamings(out, renamings.as_slice())?;
             out.append(b") ")?;
-            put_placed(alloc, out, 3, child.get(), heads)
+            put_placed(out, 3, child.get(), heads)
         }
         Expr::Join(left, right) => {
-            put_placed(alloc, out, 2, left.get(), heads)?;
+            put_placed(out, 2, left.get(), heads)?;
             out.append(b" join ")?;
-            put_placed(alloc, out, 3, right.get(), heads)
+            put_placed(out, 3, right.get(), heads)
         }
         Expr::Union(left, right) => {
-            put_placed(alloc, out, 1, left.get(), heads)?;
+            put_placed(out, 1, left.get(), heads)?;
             out.append(b" union ")?;
-            put_placed(alloc, out, 2, right.get(), heads)
+            put_placed(out, 2, right.get(), heads)
         }
         Expr::Minus(left, right) => {
-            put_placed(alloc, out, 1, left.get(), heads)?;
+            put_placed(out, 1, left.get(), heads)?;
             out.append(b" minus ")?;
-            put_placed(alloc, out, 2, right.get(), heads)
+            put_placed(out, 2, right.get(), heads)
         }
     }
 }
@@ -135,6 +129,6 @@ pub fn print_expr(
     ensures spare { out.old.spare ≤ out.new.spare + length (expr_text heads.now e.now) }
 {
     let mut text = ByteText::new(alloc);
-    put_expr(alloc, &mut text, e, heads)?;
+    put_expr(&mut text, e, heads)?;
     out.append(text.as_bytes())
 }

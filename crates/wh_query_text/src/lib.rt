@@ -1,7 +1,6 @@
 //! The text of queries: how expressions are printed.
 #![tactic(auto)]
 
-mod conditions;
 mod expressions;
 
 pub use expressions::{name_at, print_expr};
