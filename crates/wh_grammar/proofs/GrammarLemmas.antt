@@ -164,12 +164,6 @@ or_takes p q hp hq i x j e =
 abbrev pub Refuses : {A : Type 0} → Part A → Type 0
 Refuses p = (i : Input) → p.begins (next i) ≡ false → p.read i ≡ fail i
 
-pub token_refuses : (s : Symbol) → Refuses (token s)
-token_refuses s i no-token = rw no-token refl
-
-pub name_refuses : Refuses name
-name_refuses i no-token = rw no-token refl
-
 pub starts_refuses : {A B : Type 0} (p : Part A) (f : A → Parser B) → Refuses p → Refuses (starts p f)
 starts_refuses p f refuses i other = ap (λ r. and_then r f) (refuses i other)
 

@@ -226,9 +226,6 @@ not_other k t h = unset (same t k) h
     unset true e = absurd cc
     unset false e = refl
 
-is_only : (k t : Symbol) → only k t ≡ true → same t k ≡ true
-is_only k t h = h
-
 further_follows : {A : Type 0} (text : A → List ℕ) (between : List ℕ) (xs : List A) → ((rest : List ℕ) → Follows (between ++ rest)) → (rest : List ℕ) → Follows rest → Follows (further between (map text xs) ++ rest)
 further_follows text between [] apart rest after = after
 further_follows text between (x ∷ xs) apart rest after =

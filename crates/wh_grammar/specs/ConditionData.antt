@@ -36,16 +36,19 @@ conditions within operand = alt (one s.Name) (alt (one s.Integer) (one s.Quoted)
 
 -- ---- what a tree is
 
+-- an integer or a text
 abbrev pub literal_of : Tree → Option Operand
 literal_of (leaf kind bytes) = g.value_of kind
 literal_of _ = None
 
+-- a name, an integer or a text
 abbrev pub operand_of : Tree → Option Operand
 operand_of (left (leaf kind bytes)) = Some (Attr bytes)
 operand_of (right (left t)) = literal_of t
 operand_of (right (right t)) = literal_of t
 operand_of _ = None
 
+-- the operator, by the choice that was taken
 abbrev pub operator_of : Tree → Option Op
 operator_of (left t) = Some Eq
 operator_of (right (left t)) = Some Ne
@@ -55,15 +58,19 @@ operator_of (right (right (right (right (left t))))) = Some Gt
 operator_of (right (right (right (right (right t))))) = Some Ge
 operator_of _ = None
 
+-- a comparison, where its parts are there
 abbrev pub compared : Option Operand → Option Op → Option Operand → Option Cond
 compared (Some l) (Some o) (Some r) = Some (Cmp l o r)
 compared _ _ _ = None
 
+-- the negation of a condition
 abbrev pub negated : Option Cond → Option Cond
 negated None = None
 negated (Some c) = Some (Not c)
 
+-- the conditions of trees
 abbrev mutual
+  -- conditions with `or` between them
   pub cond_of : Tree → Option Cond
   cond_of (pair first more) = disjoined more (conj_of first)
   cond_of _ = None
@@ -74,6 +81,7 @@ abbrev mutual
   disjoined (pair before (pair or c)) first = both Or (disjoined before first) (conj_of c)
   disjoined _ first = None
 
+  -- conditions with `and` between them
   pub conj_of : Tree → Option Cond
   conj_of (pair first more) = conjoined more (neg_of first)
   conj_of _ = None
@@ -84,6 +92,7 @@ abbrev mutual
   conjoined (pair before (pair and c)) first = both And (conjoined before first) (neg_of c)
   conjoined _ first = None
 
+  -- a negation, a condition in parentheses, or a comparison
   pub neg_of : Tree → Option Cond
   neg_of (left (pair not c)) = negated (neg_of c)
   neg_of (right (left (pair opening (pair c closing)))) = cond_of c

@@ -17,6 +17,7 @@ pub record Lexeme : Type 0 where
   pub bytes : List ℕ
   pub from : ℕ
 
+-- a token with its bytes in the text
 abbrev pub lexeme : List ℕ → Token → Lexeme
 lexeme text t = record { kind = t.kind; bytes = take (t.to - t.from) (drop t.from text); from = t.from }
 
@@ -25,55 +26,69 @@ pub record Input : Type 0 where
   pub ahead : List Lexeme
   pub end : ℕ
 
+-- the input at the start of a text
 abbrev pub start_of : List ℕ → List Token → Input
 start_of text tokens = record { ahead = map (lexeme text) tokens; end = length text }
 
 -- ---- the next token
 
+-- the symbol of the first token, or the end
 abbrev pub symbol_of : List Lexeme → Symbol
 symbol_of [] = End
 symbol_of (t ∷ ts) = symbol t.kind t.bytes
 
+-- where the first token begins, or the length of the text
 abbrev pub place_of : List Lexeme → ℕ → ℕ
 place_of [] end = end
 place_of (t ∷ ts) end = t.from
 
+-- the symbol of the next token
 unfoldable pub next : Input → Symbol
 next i = symbol_of i.ahead
 
+-- the input behind the next token
 unfoldable pub after : Input → Input
 after i = record i { ahead = drop 1 i.ahead }
 
+-- where the next token begins, or the length of the text
 unfoldable pub place : Input → ℕ
 place i = place_of i.ahead i.end
 
+-- the bytes of the first token
 abbrev pub bytes_of : List Lexeme → List ℕ
 bytes_of [] = []
 bytes_of (t ∷ ts) = t.bytes
 
+-- the bytes of the next token
 unfoldable pub spelling : Input → List ℕ
 spelling i = bytes_of i.ahead
 
 -- ---- what reads an input: the value and the input after it, or the place at which it fails
 
+-- a value with the rest of the input, or a fault
 abbrev pub Outcome : Type 0 → Type 0
 Outcome A = Result (A × Input) TextFault
 
+-- a reader of an input
 abbrev pub Parser : Type 0 → Type 0
 Parser A = Input → Outcome A
 
+-- the further step, where there was no fault
 abbrev pub and_then : {A B : Type 0} → Outcome A → (A → Parser B) → Outcome B
 and_then (Ok p) f = f p.0 p.1
 and_then (Err e) f = Err e
 
+-- a reader, and then the reader that its value gives
 infixl 10 ◌>>=◌
 abbrev pub ◌>>=◌ : {A B : Type 0} → Parser A → (A → Parser B) → Parser B
 p >>= f = λ i. and_then (p i) f
 
+-- two readers in a row, of which the second gives the value
 infixl 10 ◌>>◌
 abbrev pub ◌>>◌ : {A B : Type 0} → Parser A → Parser B → Parser B
 p >> q = p >>= (λ _. q)
 
+-- reads nothing
 abbrev pub pure : {A : Type 0} → A → Parser A
 pure a = λ i. Ok (a, i)
 
@@ -87,10 +102,12 @@ fail = λ i. Err (refusal i)
 
 -- ---- parts of a grammar: the symbols with which one can begin, and how it reads
 
+-- a part: the symbols with which it can begin, and how it reads
 pub record Part (A : Type 0) : Type 0 where
   pub begins : Symbol → Bool
   pub read : Parser A
 
+-- whether two symbols are the same
 unfoldable pub same : Symbol → Symbol → Bool
 same = sameb the_type
 
@@ -103,6 +120,7 @@ abbrev pub taken : {A : Type 0} → Option A → Parser A
 taken None i = Err (refusal i)
 taken (Some x) i = Ok (x, after i)
 
+-- a single token whose symbol has a value
 abbrev pub valued : {A : Type 0} → (Symbol → Option A) → Part A
 valued value = record { begins = λ t. is_some (value t); read = λ i. taken (value (next i)) i }
 
@@ -132,9 +150,11 @@ unfoldable pub each_from : {A B : Type 0} → (A → B → A) → Part B → ℕ
 each_from f p zero a = λ i. Ok (a, i)
 each_from f p (suc n) a = λ i. if p.begins (next i) then (p.read >>= (λ b. each_from f p n (f a b))) i else Ok (a, i)
 
+-- a repeated part
 unfoldable pub each : {A B : Type 0} → (A → B → A) → Part B → A → Parser A
 each f p a = λ i. each_from f p (suc (length i.ahead)) a i
 
+-- a list with one more item
 abbrev pub push : {A : Type 0} → List A → A → List A
 push xs x = xs ++ x ∷ []
 
@@ -142,6 +162,7 @@ push xs x = xs ++ x ∷ []
 abbrev pub more : {A : Type 0} → Part A → Symbol → Part A
 more p s = starts (token s) (λ _. p.read)
 
+-- one item or more, with a token between each two
 abbrev pub separated : {A : Type 0} → Part A → Symbol → Part (List A)
 separated p s = starts p (λ first. each push (more p s) (first ∷ []))
 
@@ -155,6 +176,7 @@ whole p = p >>= (λ a j. if same (next j) End then Ok (a, j) else fail j)
 
 -- ---- what a function that reads ensures: the outcome, unless memory ran out
 
+-- what a reader returned is the outcome, unless memory ran out
 abbrev pub Reads : {A : Type 0} → Outcome A → Result A TextFault → Input → Type 0
 Reads outcome (Ok a) new = outcome ≡ Ok (a, new)
 Reads outcome (Err e) new = e ≢ NoMemory → outcome ≡ Err e

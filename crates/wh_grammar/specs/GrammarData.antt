@@ -22,12 +22,14 @@ pub data Grammar (N : Type 0) : Type 0 where
   many : Grammar N → Grammar N
   rule : N → Grammar N
 
+-- a sequence
 infixr 8 ◌then◌
 abbrev pub ◌then◌ : {N : Type 0} → Grammar N → Grammar N → Grammar N
 g then h = seq g h
 
 -- ---- the meaning of a grammar
 
+-- the kind of the first token
 abbrev pub kind_of : List Lexeme → TokenKind
 kind_of [] = kinds.Mark
 kind_of (t ∷ ts) = t.kind
@@ -36,6 +38,7 @@ kind_of (t ∷ ts) = t.kind
 abbrev pub token_tree : Symbol → Part Tree
 token_tree k = record { begins = λ t. same t k; read = λ i. if same (next i) k then Ok (leaf (kind_of i.ahead) (spelling i), after i) else Err (refusal i) }
 
+-- a part whose trees are wrapped
 abbrev pub mapped : (Tree → Tree) → Part Tree → Part Tree
 mapped f p = starts p (λ x. pure (f x))
 
@@ -60,6 +63,7 @@ meaning rules (opt g) = optional (meaning rules g)
 meaning rules (many g) = repeated (meaning rules g)
 meaning rules (rule n) = rules n
 
+-- a part that fails
 abbrev pub nothing : Part Tree
 nothing = record { begins = λ _. false; read = fail }
 
@@ -70,6 +74,7 @@ trees grammar (suc d) n = meaning (trees grammar d) (grammar n)
 
 -- ---- what a tree is
 
+-- any tree
 abbrev pub unit_of : Tree → Option (Unit {0})
 unit_of _ = Some tt
 
@@ -99,6 +104,7 @@ abbrev pub more_of : {A : Type 0} → (Tree → Option A) → Tree → Option A 
 more_of value t None = None
 more_of value t (Some first) = list_of (behind value) (first ∷ []) t
 
+-- items with a token between each two
 abbrev pub separated_of : {A : Type 0} → (Tree → Option A) → Tree → Option (List A)
 separated_of value (pair first t) = more_of value t (value first)
 separated_of value _ = None
@@ -108,6 +114,7 @@ abbrev pub enclosed_of : {A : Type 0} → (Tree → Option A) → Tree → Optio
 enclosed_of value (pair opening (pair found closing)) = value found
 enclosed_of value _ = None
 
+-- an optional part that is there
 abbrev pub some_of : {A : Type 0} → Option A → Option (Option A)
 some_of None = None
 some_of (Some x) = Some (Some x)

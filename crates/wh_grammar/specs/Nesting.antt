@@ -5,6 +5,7 @@ use Rattle.wh_grammar.specs.declared.symbol.Symbol.TheVariants as s
 use Rattle.wh_grammar.specs.Symbols.{symbol}
 use Rattle.wh_grammar.specs.Grammar.{Lexeme}
 
+-- words and marks that are counted
 abbrev pub is_connective : Symbol → Bool
 is_connective s.And = true
 is_connective s.Or = true
@@ -28,11 +29,13 @@ abbrev pub is_too_deep : ℕ → ℕ → Symbol → Bool
 is_too_deep parens connectives s.LeftParen = nat_le 64 parens
 is_too_deep parens connectives t = is_connective t && nat_le 2000 connectives
 
+-- the parentheses that are open behind a symbol; one that closes nothing leaves 0
 abbrev pub parens_after : ℕ → Symbol → ℕ
 parens_after parens s.LeftParen = parens + 1
 parens_after parens s.RightParen = parens - 1
 parens_after parens _ = parens
 
+-- the connectives behind a symbol, since the start of the text or the last `;`
 abbrev pub connectives_after : ℕ → Symbol → ℕ
 connectives_after connectives s.Semicolon = 0
 connectives_after connectives t = if is_connective t then connectives + 1 else connectives

@@ -15,6 +15,7 @@ operand_text (Attr n) = n
 operand_text (Int v) = signed_decimal v
 operand_text (Text t) = quoted t
 
+-- the mark of an operator
 abbrev pub op_text : Op → List ℕ
 op_text Eq = codes "="
 op_text Ne = codes "<>"
@@ -23,6 +24,7 @@ op_text Le = codes "<="
 op_text Gt = codes ">"
 op_text Ge = codes ">="
 
+-- whether a level is an `or`
 abbrev pub is_or_at : Cond-F Cond → Bool
 is_or_at Cond-F.Always = false
 is_or_at (Cond-F.Cmp l o r) = false
@@ -30,6 +32,7 @@ is_or_at (Cond-F.Not c) = false
 is_or_at (Cond-F.And a b) = false
 is_or_at (Cond-F.Or a b) = true
 
+-- whether a level is an `and` or an `or`
 abbrev pub is_compound_at : Cond-F Cond → Bool
 is_compound_at Cond-F.Always = false
 is_compound_at (Cond-F.Cmp l o r) = false
@@ -37,9 +40,11 @@ is_compound_at (Cond-F.Not c) = false
 is_compound_at (Cond-F.And a b) = true
 is_compound_at (Cond-F.Or a b) = true
 
+-- whether a condition is an `or`
 abbrev pub is_or : Cond → Bool
 is_or c = is_or_at (out-Cond c)
 
+-- whether a condition is an `and` or an `or`
 abbrev pub is_compound : Cond → Bool
 is_compound c = is_compound_at (out-Cond c)
 
@@ -65,6 +70,7 @@ printed c = para-Cond (List ℕ) printed_at c
 abbrev pub held_shallow : Bool → (ℕ → Bool) → ℕ → Bool
 held_shallow in_parentheses inside opened = if in_parentheses then nat_lt opened 64 && inside (opened + 1) else inside opened
 
+-- the same of one level, from its parts
 abbrev pub shallow_at : Cond-F (Cond × (ℕ → Bool)) → ℕ → Bool
 shallow_at Cond-F.Always opened = true
 shallow_at (Cond-F.Cmp l o r) opened = true

@@ -18,16 +18,19 @@ pub data Shape : Type 0 where
   conj : Shape
   disj : Shape
 
+-- whether a shape is an `or`
 abbrev pub is_disj : Shape → Bool
 is_disj basic = false
 is_disj conj = false
 is_disj disj = true
 
+-- whether a shape is an `and` or an `or`
 abbrev pub is_compound : Shape → Bool
 is_compound basic = false
 is_compound conj = true
 is_compound disj = true
 
+-- the token has this symbol
 abbrev pub IsToken : Symbol → Lexeme → Type 0
 IsToken s t = symbol t.kind t.bytes ≡ s
 
@@ -37,6 +40,7 @@ IsOperand (operands.Attr n) t = (symbol t.kind t.bytes ≡ s.Name) × (t.bytes �
 IsOperand (operands.Int v) t = t.kind ≡ kinds.Int v
 IsOperand (operands.Text v) t = t.kind ≡ kinds.Text v
 
+-- the token is this operator
 abbrev pub IsOp : Op → Lexeme → Type 0
 IsOp o t = op_of (symbol t.kind t.bytes) ≡ Some o
 

@@ -19,6 +19,7 @@ reserved_words =
     (codes "not", s.Not) ∷ (codes "project", s.Project) ∷ (codes "select", s.Select) ∷ (codes "rename", s.Rename) ∷ (codes "to", s.To) ∷
     (codes "union", s.Union) ∷ (codes "minus", s.Minus) ∷ (codes "int", s.IntWord) ∷ (codes "text", s.TextWord) ∷ []
 
+-- the marks
 abbrev pub marks : List (List ℕ × Symbol)
 marks =
     (codes "(", s.LeftParen) ∷ (codes ")", s.RightParen) ∷ (codes ",", s.Comma) ∷ (codes ";", s.Semicolon) ∷ (codes "=", s.Equal) ∷

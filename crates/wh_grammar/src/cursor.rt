@@ -1,4 +1,4 @@
-ghost use Rattle.std.specs.Prelude.{◌≡◌, ◌≢◌, length, map, All, false, [], IsTrue, ◌↔◌};
+ghost use Rattle.std.specs.Prelude.{◌≡◌, ◌≢◌, length, map, All, false, [], Err, OnErr, IsTrue, ◌↔◌};
 ghost use Rattle.wh_grammar.specs.Grammar as spec;
 ghost use Rattle.wh_grammar.specs.Grammar.{Reads};
 ghost use Rattle.wh_grammar.specs.Conditions.{operand, literal};
@@ -112,7 +112,8 @@ impl<'a> Cursor<'a> {
 
     /// Passes a token with this symbol.
     pub fn expect(&mut self, symbol: Symbol) -> Result<(), TextFault>
-        ensures { Reads ((spec.token symbol).read self.old) result self.new }
+        ensures read { Reads ((spec.token symbol).read self.old) result self.new }
+        ensures refused { OnErr result (result ≡ Err (spec.refusal self.old)) }
     {
         if !self.sees(symbol) {
             return Err(self.refuse());

@@ -16,9 +16,6 @@ pub record Reached (text rest : List ℕ) (found : List Token) : Type 0 where
   pub place : len_of pieces + length rest ≡ length text
   pub within : All (IsWithin text) found
 
-pub Reached-start : (text : List ℕ) → Reached text text []
-Reached-start text = record { pieces = []; stand = refl; tokens = refl; place = omega arith; within = All-nil (IsWithin text) }
-
 Stand-push : (at : ℕ) (text rest : List ℕ) (ps : List Piece) (p : Piece) → Stand at text ps rest → 0 < length rest → front (at + len_of ps) rest ≡ Ok p → Stand at text (ps ++ p ∷ []) (drop p.1 rest)
 Stand-push at text rest [] p stand some is = rw stand (some, rw (add-zero at) at is, refl)
 Stand-push at text rest (q ∷ ps) p stand some is = (stand.0, stand.1, Stand-push (at + q.1) (drop q.1 text) rest ps p stand.2 some (rw (add_assoc at q.1 (len_of ps)) is))

@@ -234,10 +234,6 @@ pub reads_close : (at : ℕ) (rest : List ℕ) → front at (41 ∷ rest) ≡ Ok
 unfolding front mark
 reads_close at rest = refl
 
-pub reads_comma : (at : ℕ) (rest : List ℕ) → front at (44 ∷ rest) ≡ Ok (Some Mark, 1)
-unfolding front mark
-reads_comma at rest = refl
-
 pub reads_semicolon : (at : ℕ) (rest : List ℕ) → front at (59 ∷ rest) ≡ Ok (Some Mark, 1)
 unfolding front mark
 reads_semicolon at rest = refl

@@ -20,10 +20,12 @@ Fails (fault.OpenQuote at) read = read ≡ Err (fault.OpenQuote at)
 Fails (fault.NumberRange at) read = read ≡ Err (fault.NumberRange at)
 Fails (fault.TextTooLong at) read = read ≡ Err (fault.TextTooLong at)
 
+-- a result is the reading, unless memory ran out
 abbrev pub Gives : {X Y : Type 0} → (X → Y) → Result X LexFault → Result Y LexFault → Type 0
 Gives view (Ok x) read = read ≡ Ok (view x)
 Gives view (Err e) read = Fails e read
 
+-- whether a byte goes on with a word, a number or a comment
 abbrev pub is_in : Class → ℕ → Bool
 is_in class.Word b = is_ascii_alphanumeric b || b == 95
 is_in class.Digit b = is_ascii_digit b
@@ -46,13 +48,16 @@ fits (negsuc n) = nat_lt n (2 ^ 63)
 abbrev pub IsInteger : ℕ → List ℕ → Type 0
 IsInteger len z = (len ≤ length z) × IsNumeral 10 (without_leading_sign (take len z))
 
+-- the value of digits, where it fits in an i64
 abbrev pub integer_value : List ℕ → Option ℤ
 integer_value digits = if fits (signed_digits_value 10 digits) then Some (signed_digits_value 10 digits) else None
 
+-- an integer of a number of bytes, or its fault
 abbrev pub in_range : ℕ → ℕ → Option ℤ → Result Piece LexFault
 in_range at len None = Err (fault.NumberRange at)
 in_range at len (Some value) = Ok (Some (Int value), len)
 
+-- an integer of so many bytes
 unfoldable pub integer : ℕ → List ℕ → ℕ → Result Piece LexFault
 integer at z len = in_range at len (integer_value (take len z))
 
@@ -64,6 +69,7 @@ if_utf8 at bytes piece = if is_utf8 bytes then Ok piece else Err (fault.BadByte 
 unfoldable pub comment : ℕ → List ℕ → Result Piece LexFault
 comment at z = let len = past class.Line z 2 in if_utf8 at (take len z) (None, len)
 
+-- what a `-` begins: a comment or an integer
 unfoldable pub minus : ℕ → List ℕ → Result Piece LexFault
 minus at z =
     if slice_index z 1 == 45 then comment at z
@@ -81,12 +87,14 @@ text_at [] = None
 text_at (b ∷ []) = if b == 39 then Some ([], []) else None
 text_at (b ∷ c ∷ z) = if b == 39 then (if c == 39 then with_byte 39 (text_at z) else Some ([], c ∷ z)) else with_byte b (text_at (c ∷ z))
 
+-- a text that ends, or its fault
 abbrev pub quoted : ℕ → List ℕ → Option (List ℕ × List ℕ) → Result Piece LexFault
 quoted at z None = Err (fault.OpenQuote at)
 quoted at z (Some p) =
     let len = length z - length p.1 in
     if nat_lt 65535 (length p.0) then Err (fault.TextTooLong at) else if_utf8 at (take len z) (Some (Text p.0), len)
 
+-- what a quote begins
 unfoldable pub text : ℕ → List ℕ → Result Piece LexFault
 text at z = quoted at z (text_at (drop 1 z))
 
@@ -94,9 +102,11 @@ text at z = quoted at z (text_at (drop 1 z))
 abbrev pub IsShort : ℕ → ℕ → Type 0
 IsShort next len = (1 ≤ len) × (len ≤ 2) × (next ≡ 0 → len ≡ 1)
 
+-- a mark that no other begins with
 abbrev pub is_single : ℕ → Bool
 is_single b = b == 40 || b == 41 || b == 44 || b == 59 || b == 61
 
+-- a mark, by its byte and the next
 unfoldable pub mark : ℕ → ℕ → ℕ → Result Piece LexFault
 mark at b next =
     if b == 60 then Ok (Some Mark, if next == 61 || next == 62 then 2 else 1)
@@ -104,9 +114,11 @@ mark at b next =
     else if is_single b then Ok (Some Mark, 1)
     else Err (fault.BadByte at)
 
+-- space, tab, CR or LF
 abbrev pub is_blank : ℕ → Bool
 is_blank b = b == 32 || b == 9 || b == 13 || b == 10
 
+-- a letter or `_`
 abbrev pub begins_word : ℕ → Bool
 begins_word b = is_ascii_alphabetic b || b == 95
 

@@ -14,10 +14,12 @@ abbrev pub token_of : ℕ → Piece → List Token
 token_of at (None, len) = []
 token_of at (Some kind, len) = record { kind = kind; from = at; to = at + len } ∷ []
 
+-- the tokens of pieces
 abbrev pub tokens_of : ℕ → List Piece → List Token
 tokens_of at [] = []
 tokens_of at (p ∷ ps) = token_of at p ++ tokens_of (at + p.1) ps
 
+-- how many bytes pieces take
 abbrev pub len_of : List Piece → ℕ
 len_of [] = 0
 len_of (p ∷ ps) = p.1 + len_of ps
@@ -27,6 +29,7 @@ abbrev pub Lexes : List ℕ → Result (List Token) LexFault → Type 0
 Lexes text (Ok tokens) = (ps : List Piece) × Stand 0 text ps [] × (tokens ≡ tokens_of 0 ps)
 Lexes text (Err fault) = (ps : List Piece) × (rest : List ℕ) × Stand 0 text ps rest × (0 < length rest) × (front (len_of ps) rest ≡ Err fault)
 
+-- a text has one reading
 abbrev pub IsOneReading : Type 0
 IsOneReading = (text : List ℕ) (a b : Result (List Token) LexFault) → Lexes text a → Lexes text b → a ≡ b
 

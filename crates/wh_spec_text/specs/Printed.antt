@@ -19,6 +19,7 @@ use Rattle.wh_schema.specs.Warehouse.{relation_at}
 
 -- ---- texts of lists
 
+-- texts with commas between them
 abbrev pub listed : List (List ℕ) → List ℕ
 listed ts = joined (codes ", ") ts
 
@@ -28,10 +29,12 @@ columns_text names = codes "(" ++ listed names ++ codes ")"
 
 -- ---- texts of statements
 
+-- the word of a kind
 abbrev pub kind_text : Kind → List ℕ
 kind_text kinds.Int = codes "int"
 kind_text kinds.Text = codes "text"
 
+-- an attribute: its name and its kind
 abbrev pub attr_text : Attr → List ℕ
 attr_text a = a.name ++ codes " " ++ kind_text a.kind
 
@@ -39,12 +42,15 @@ attr_text a = a.name ++ codes " " ++ kind_text a.kind
 abbrev pub line_end : List ℕ
 line_end = 59 ∷ 10 ∷ []
 
+-- a `relation` statement
 abbrev pub relation_text : RawRelation → List ℕ
 relation_text r = codes "relation " ++ r.name ++ columns_text (map attr_text r.attrs) ++ codes " key " ++ columns_text r.key ++ line_end
 
+-- an `inclusion` statement
 abbrev pub inclusion_text : RawInclusion → List ℕ
 inclusion_text c = codes "inclusion " ++ c.from ++ columns_text c.from_cols ++ codes " in " ++ c.to ++ columns_text c.to_cols ++ line_end
 
+-- a head that is given
 abbrev pub head_text : Option (List (List ℕ)) → List ℕ
 head_text None = []
 head_text (Some names) = columns_text names
@@ -57,12 +63,15 @@ where_at (Cond-F.And a b) text = codes " where " ++ text
 where_at (Cond-F.Or a b) text = codes " where " ++ text
 where_at (Cond-F.Not a) text = codes " where " ++ text
 
+-- the condition of a view
 abbrev pub where_text : Cond → List ℕ
 where_text c = where_at (out-Cond c) (printed c)
 
+-- a `view` statement
 abbrev pub view_text : RawView → List ℕ
 view_text v = codes "view " ++ v.name ++ head_text v.head ++ codes " = " ++ joined (codes " join ") v.relations ++ where_text v.cond ++ line_end
 
+-- a statement on its line
 abbrev pub statement_text : RawStatement → List ℕ
 statement_text (statements.Relation r) = relation_text r
 statement_text (statements.Inclusion c) = inclusion_text c
@@ -75,12 +84,15 @@ statements_text (s ∷ ss) = statement_text s ++ statements_text ss
 
 -- ---- a specification by its statements
 
+-- the name of the relation with a number
 abbrev pub name_at : Spec → ℕ → List ℕ
 name_at spec number = (relation_at spec number).name
 
+-- the statement of a relation
 abbrev pub raw_relation : Relation → RawStatement
 raw_relation r = statements.Relation (record { name = r.name; attrs = r.attrs; key = r.key })
 
+-- the statement of an inclusion
 abbrev pub raw_inclusion : Spec → Inclusion → RawStatement
 raw_inclusion spec c = statements.Inclusion (record { from = name_at spec c.from; from_cols = c.from_cols; to = name_at spec c.to; to_cols = c.to_cols })
 

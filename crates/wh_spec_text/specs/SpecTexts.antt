@@ -24,10 +24,12 @@ abbrev pub of_rules : SpecFault → SpecTextFault
 of_rules (spec_fault.At statement cause) = Rule statement cause
 of_rules spec_fault.NoMemory = NoMemory
 
+-- what the rules give
 abbrev pub ruled : Result Spec SpecFault → Result Spec SpecTextFault
 ruled (Ok spec) = Ok spec
 ruled (Err fault) = Err (of_rules fault)
 
+-- what the rules give of the statements of a text
 abbrev pub spec_of_raw : Result (List RawStatement) TextFault → Result Spec SpecTextFault
 spec_of_raw (Err fault) = Err (of_text fault)
 spec_of_raw (Ok raw) = ruled (checked raw)

@@ -20,14 +20,17 @@ use Rattle.wh_schema.specs.declared.raw.RawView.{RawView}
 use Rattle.wh_schema.specs.declared.raw.RawStatement.{RawStatement}
 use Rattle.wh_schema.specs.declared.raw.RawStatement.TheVariants.{Relation, Inclusion, View}
 
+-- `int` or `text`
 abbrev pub kind : Part Kind
 kind = starts (token s.IntWord) (λ _. pure kinds.Int) or starts (token s.TextWord) (λ _. pure kinds.Text)
 
+-- a name with a kind
 abbrev pub attr : Part Attr
 attr = starts name (λ n. do
   k ← kind.read
   pure (record { name = n; kind = k }))
 
+-- one attribute or more
 abbrev pub attrs : Part (List Attr)
 attrs = separated attr s.Comma
 
@@ -39,6 +42,7 @@ columns = enclosed (separated name s.Comma).read
 abbrev pub attr_columns : Part (List Attr)
 attr_columns = enclosed attrs.read
 
+-- a relation behind its first word
 unfoldable pub relation_rest : Parser RawRelation
 relation_rest = do
   n ← name.read
@@ -48,6 +52,7 @@ relation_rest = do
   (token s.Semicolon).read
   pure (record { name = n; attrs = found; key = key })
 
+-- an inclusion behind its first word
 unfoldable pub inclusion_rest : Parser RawInclusion
 inclusion_rest = do
   from ← name.read
@@ -63,12 +68,15 @@ abbrev pub chosen : Option Cond → Cond
 chosen None = Always
 chosen (Some c) = c
 
+-- a condition behind its word
 abbrev pub where_cond : ℕ → Part Cond
 where_cond depth = starts (token s.Where) (λ _. (conditions.cond depth).read)
 
+-- an optional condition
 abbrev pub selection : ℕ → Parser Cond
 selection depth = maybe (where_cond depth) >>= (λ c. pure (chosen c))
 
+-- a view behind its first word
 unfoldable pub view_rest : ℕ → Parser RawView
 view_rest depth = do
   n ← name.read
@@ -79,15 +87,19 @@ view_rest depth = do
   (token s.Semicolon).read
   pure (record { name = n; head = head; relations = relations; cond = c })
 
+-- a `relation` statement
 abbrev pub relation : Part RawStatement
 relation = starts (token s.Relation) (λ _. relation_rest >>= (λ r. pure (Relation r)))
 
+-- an `inclusion` statement
 abbrev pub inclusion : Part RawStatement
 inclusion = starts (token s.Inclusion) (λ _. inclusion_rest >>= (λ r. pure (Inclusion r)))
 
+-- a `view` statement
 abbrev pub view : ℕ → Part RawStatement
 view depth = starts (token s.View) (λ _. view_rest depth >>= (λ v. pure (View v)))
 
+-- a statement
 abbrev pub statement : ℕ → Part RawStatement
 statement depth = relation or inclusion or view depth
 

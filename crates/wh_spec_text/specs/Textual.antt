@@ -19,6 +19,7 @@ abbrev pub AreNames : List (List ℕ) → Type 0
 AreNames [] = ⊥
 AreNames (n ∷ ns) = AllByRecursion IsName (n ∷ ns)
 
+-- a head that is left out, or of names
 abbrev pub IsHead : Option (List (List ℕ)) → Type 0
 IsHead None = Unit {0}
 IsHead (Some names) = AreNames names
@@ -39,6 +40,7 @@ IsShort (statements.Relation r) = Unit {0}
 IsShort (statements.Inclusion c) = Unit {0}
 IsShort (statements.View v) = length v.relations + nodes v.cond ≤ 2000
 
+-- a statement that its printed form gives
 abbrev pub HasText : RawStatement → Type 0
 HasText s = HasWords s × IsShort s
 
