@@ -1,3 +1,4 @@
 mod CutLemmas
 mod EvaluateLemmas
 mod PartnerLemmas
+mod StoredLemmas

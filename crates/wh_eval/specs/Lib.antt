@@ -2,3 +2,4 @@ pub mod Evaluates
 pub mod Lists
 pub mod Partners
 pub mod Relation
+pub mod Stored

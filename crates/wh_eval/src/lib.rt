@@ -9,9 +9,11 @@ mod look_up;
 mod once;
 mod relation;
 mod rows;
+mod stored;
 
 pub use base::Base;
 pub use evaluate::{eval, eval_where};
 pub use lists::Lists;
 pub use relation::{Relation, join_all};
 pub use rows::{append, cut_all, pick_all, rows_without, without};
+pub use stored::{Stored, fits_by_indexes, singles_fit};
