@@ -9,5 +9,5 @@ mod typing;
 
 pub use expr::{Expr, Pairs, Renaming};
 pub use fault::{TypeCause, TypeFault};
-pub use names::new_name;
+pub use names::{are_distinct, new_name};
 pub use typing::{MOST_DEPTH, MOST_NODES, typed};

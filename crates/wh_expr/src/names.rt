@@ -29,7 +29,7 @@ pub(crate) fn are_attrs(attrs: &[Attr], names: &[Name]) -> bool
 }
 
 /// Whether no name stands twice.
-pub(crate) fn are_distinct(names: &[Name]) -> bool
+pub fn are_distinct(names: &[Name]) -> bool
     ensures { result ≡ are_distinct names.now }
 {
     for (place, name) in names.iter().enumerate() {

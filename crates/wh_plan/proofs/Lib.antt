@@ -1,5 +1,7 @@
 mod ColumnLemmas
-mod ExprMeaning
+pub mod ExprMeaning
 pub mod HeldLemmas
+mod IndexLemmas
 pub mod OrderLemmas
 mod PlanLemmas
+pub mod UsesLemmas

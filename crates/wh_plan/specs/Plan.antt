@@ -4,6 +4,7 @@ use Rattle.wh_plan.specs.declared.plan.Plan.{Plan}
 use Rattle.wh_plan.specs.declared.plan.PlanFault.{PlanFault}
 use Rattle.wh_plan.specs.declared.plan.PlanFault.TheVariants.{TooManyPieces, NoMemory}
 use Rattle.wh_plan.specs.Expressions.{view_expr, inverse_expr, key_probes}
+use Rattle.wh_plan.specs.Indexes.{indexes}
 use Rattle.wh_schema.specs.declared.piece.Piece.{Piece}
 use Rattle.wh_schema.specs.declared.spec.Spec.{Spec}
 use Rattle.wh_schema.specs.Reconstruction.{order}
@@ -24,6 +25,7 @@ plan_of spec = record {
   covers = map (relation_covers spec) (numbers (length spec.relations));
   view_exprs = map (view_expr spec) (numbers (length spec.views));
   inverse_exprs = map (inverse_expr spec) (numbers (length spec.relations));
+  indexes = indexes spec;
   key_probes = map (λ i. key_probes (pieces spec i)) (numbers (length spec.relations));
 }
 

@@ -4,6 +4,7 @@ ghost use Rattle.wh_plan.specs.Expressions.{inverse_expr, key_probes as key_prob
 ghost use Rattle.wh_plan.specs.Plan.{plan_of, all_pieces, relation_covers, too_many, IsPlanFault, IsFaultAt};
 ghost use Rattle.wh_schema.specs.Warehouse.{pieces as pieces_of, numbers};
 
+use crate::indexes::indexes;
 use crate::inverse::{inverse_expr, key_probes, view_exprs};
 use crate::order::order;
 use crate::plan::{Exprs, Plan, PlanFault, ProbeBounds};
@@ -88,6 +89,7 @@ pub fn make_plan(alloc: Global, spec: Spec) -> Result<Plan, PlanFault>
         order: order(alloc, &spec)?,
         view_exprs: view_exprs(alloc, &spec)?,
         inverse_exprs: inverse_exprs(alloc, &spec, &piece_lists, &cover_lists)?,
+        indexes: indexes(alloc, &spec)?,
         key_probes: all_key_probes(alloc, &spec, &piece_lists)?,
         spec,
         pieces: piece_lists,

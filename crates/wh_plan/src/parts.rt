@@ -1,5 +1,5 @@
 ghost use Rattle.std.specs.Prelude.{◌≡◌, ◌<◌, length};
-ghost use Rattle.wh_plan.specs.Expressions.{inverse_expr, key_probes};
+ghost use Rattle.wh_plan.specs.Expressions.{view_expr, inverse_expr, key_probes};
 ghost use Rattle.wh_plan.specs.Plan.{IsPlan, relation_covers};
 ghost use Rattle.wh_schema.specs.Warehouse.{pieces as pieces_of};
 
@@ -25,6 +25,16 @@ impl Plan {
     {
         &self.covers.as_slice()[relation as usize]
     }
+
+    /// The expression of a view over its relations.
+    pub fn view_of(&self, view: u32) -> &Expr
+        requires plan { IsPlan self.now }
+        requires view { view < length self.now.spec.views }
+        ensures { result.now ≡ view_expr self.now.spec view }
+    {
+        &self.view_exprs.as_slice()[view as usize]
+    }
+
     /// The expression of a relation over its complement, the views and the relations before it in the order.
     pub fn inverse_of(&self, relation: u32) -> &Expr
         requires plan { IsPlan self.now }

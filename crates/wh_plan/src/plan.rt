@@ -1,4 +1,4 @@
-use wh_base::{NoMemory, Places, Sequence};
+use wh_base::{ColumnSets, NoMemory, Places, Sequence};
 use wh_covers::{CoverLists, PieceLists};
 use wh_expr::Expr;
 use wh_schema::Spec;
@@ -7,6 +7,9 @@ pub type Exprs = Sequence<Expr>;
 
 /// Of each relation the most look-ups that find a row by its key, where that is known.
 pub type ProbeBounds = Sequence<Option<u64>>;
+
+/// Of each stored table the sets of columns that it is looked up by.
+pub type IndexLists = Sequence<ColumnSets>;
 
 /// What is computed of a specification once.
 #[derive(Debug, Drop)]
@@ -21,6 +24,8 @@ pub struct Plan {
     pub view_exprs: Exprs,
     /// Of each relation its expression over its complement, the views and the relations before it in the order.
     pub inverse_exprs: Exprs,
+    /// Of each stored table its indexed sets: the views, then the complements.
+    pub indexes: IndexLists,
     pub key_probes: ProbeBounds,
 }
 
