@@ -2,8 +2,15 @@
 #![tactic(auto)]
 
 mod expressions;
+mod fault;
+mod fault_line;
+mod parsing;
 mod raw;
 mod reading;
+mod resolving;
 
 pub use expressions::{name_at, print_expr};
+pub use fault::QueryFault;
+pub use fault_line::put_query_fault;
+pub use parsing::{Query, parse_query};
 pub use raw::{Infix, Prefix, RawQuery};
