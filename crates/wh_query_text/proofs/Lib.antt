@@ -1,3 +1,5 @@
 pub mod PlacedLemmas
 pub mod QueryLemmas
 pub mod QueryTextLemmas
+pub mod Unplaced
+pub mod QueryDataLemmas

@@ -61,7 +61,7 @@ some_word words i o none some = some_ahead i.ahead some
     some_ahead [] e = absurd (cc (sym none ∙ e))
     some_ahead (t ∷ ts) e = omega arith
 
-word_takes : (words : Symbol → Option Infix) → words s.End ≡ None → Takes (valued words).read
+pub word_takes : (words : Symbol → Option Infix) → words s.End ≡ None → Takes (valued words).read
 word_takes words none i x j e =
     let t = taken_ok (words (next i)) i x j e in
     omega (arith, some_word words i x none t.0, after_is i, ap left t.1)

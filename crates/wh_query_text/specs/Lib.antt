@@ -1,3 +1,4 @@
 pub mod Printed
 pub mod Queries
 pub mod QueryTexts
+pub mod QueryData

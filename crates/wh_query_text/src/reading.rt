@@ -1,6 +1,7 @@
 ghost use Rattle.std.specs.Prelude.{◌≡◌, ◌≢◌, length};
 ghost use Rattle.wh_grammar.specs.Grammar.{Reads};
 ghost use Rattle.wh_query_text.specs.Queries as spec;
+ghost use Rattle.wh_query_text.specs.QueryData.{QueriesAgree};
 
 use crate::raw::{Infix, Prefix, RawQuery};
 use sqlite_items::Boxed;
@@ -228,3 +229,8 @@ pub fn whole_query(
     }
     Ok(query)
 }
+
+/// The readers give the expression of the tree that the grammar of queries has, and fail where it fails.
+pub fn grammar_agrees()
+    ensures { QueriesAgree }
+{}
