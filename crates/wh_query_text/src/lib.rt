@@ -15,3 +15,6 @@ pub use fault_line::put_query_fault;
 pub use parsing::{Query, parse_query};
 pub use raw::{Infix, Prefix, RawQuery};
 pub use reading::grammar_agrees;
+
+#[cfg(test)]
+mod tests;
