@@ -1,0 +1,3 @@
+pub mod Image
+pub mod Store
+pub mod Warehouse
