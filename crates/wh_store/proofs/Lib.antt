@@ -1,0 +1,2 @@
+mod CommitLemmas
+mod TableSteps

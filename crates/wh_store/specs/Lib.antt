@@ -1,3 +1,4 @@
+pub mod Commit
 pub mod Image
 pub mod Store
 pub mod Warehouse

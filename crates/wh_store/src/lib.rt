@@ -1,14 +1,18 @@
 //! The store: a warehouse in memory beside the two files that keep it.
 #![tactic(auto)]
 
+mod changes;
+mod commit;
 mod creation;
 mod emptiness;
 mod fault;
 mod opening;
+mod ready;
 mod warehouse;
 
 pub use creation::create;
 pub use emptiness::both_empty;
 pub use fault::StoreFault;
 pub use opening::open_store;
+pub use ready::Ready;
 pub use warehouse::{Place, Warehouse, Which};

@@ -1,0 +1,40 @@
+use Rattle.std.proofs.Common.{◌≡◌, ◌+◌, ℕ, ◌<◌, ◌≤◌, ◌++◌, List, [], ◌∷◌, length, get_or, rules, sym, ap, subst, ◌∙◌, arith}
+use Rattle.std.proofs.lemmas.Iterator.Adapters.{YieldsList-from_vec}
+use Rattle.std.proofs.lemmas.Iterator.Consumers.{YieldsList-from_enumerate, YieldsList-turn, YieldsList-end}
+use Rattle.std.proofs.lemmas.List.{get_or_read, length_push}
+use Rattle.std.proofs.lemmas.List.FromFn.{length-enumerate_from}
+use Rattle.wh_table.specs.Table.{CanApply, IndexedRows}
+use Rattle.wh_store.specs.Warehouse.{no_table, table_at}
+use Rattle.wh_store.specs.Image.{no_delta}
+use Rattle.wh_store.proofs.TableSteps.{AreChangedTo, IsChanged, changed_all, changed_more, may_change, changed_by, turned}
+use Rattle.wh_store.proofs.changes.apply_each.Goals as goal
+
+pub index_mut-requires : goal.index_mut-requires
+index_mut-requires c =
+    let turn = YieldsList-turn (YieldsList-from_enumerate (YieldsList-from_vec c.args.prepared.items (cc) (cc)) cc) c.loop-table.yielded c.loop-table.table-iterator c.loop-table.yielded_by c.next.result c.next.new.self (c.in-Some.table, c.in-Some.change) c.in-Some.is c.next.ensures.steps in
+    let here = turned c.args.prepared.items (length c.loop-table.yielded) c.in-Some.table c.in-Some.change no_delta turn.0 turn.1 in
+    omega (arith, here.0, here.1, c.requires.fits.count, c.loop-table.invariant.changed.count)
+
+pub apply-requires : goal.apply-requires
+apply-requires c =
+    let turn = YieldsList-turn (YieldsList-from_enumerate (YieldsList-from_vec c.args.prepared.items (cc) (cc)) cc) c.loop-table.yielded c.loop-table.table-iterator c.loop-table.yielded_by c.next.result c.next.new.self (c.in-Some.table, c.in-Some.change) c.in-Some.is c.next.ensures.steps in
+    let here = turned c.args.prepared.items (length c.loop-table.yielded) c.in-Some.table c.in-Some.change no_delta turn.0 turn.1 in
+    may_change (length c.loop-table.yielded) c.args.tables.now.items c.args.prepared.items c.loop-table.tables.items c.in-Some.table c.in-Some.change c.index_mut.result.now
+      here c.index_mut.ensures.value c.requires.fits c.requires.room c.loop-table.invariant.changed
+
+pub loop-table-preserved : goal.loop-table-preserved
+loop-table-preserved c =
+    let turn = YieldsList-turn (YieldsList-from_enumerate (YieldsList-from_vec c.args.prepared.items (cc) (cc)) cc) c.loop-table.yielded c.loop-table.table-iterator c.loop-table.yielded_by c.next.result c.next.new.self (c.in-Some.table, c.in-Some.change) c.in-Some.is c.next.ensures.steps in
+    let here = turned c.args.prepared.items (length c.loop-table.yielded) c.in-Some.table c.in-Some.change no_delta turn.0 turn.1 in
+    record {
+      can = search rules;
+      finite = search rules;
+      changed = changed_by (length c.loop-table.yielded) (length (c.loop-table.yielded ++ (c.in-Some.table, c.in-Some.change) ∷ [])) c.args.tables.now.items c.args.prepared.items c.loop-table.tables.items c.in-Some.table c.in-Some.change c.index_mut.result.now c.apply.new.self
+        here (length_push c.loop-table.yielded (c.in-Some.table, c.in-Some.change)) c.index_mut.ensures.value c.requires.fits.count c.loop-table.invariant.changed (record { rows = c.apply.ensures.rows; width = c.apply.ensures.width; indexes = c.apply.ensures.indexes });
+    }
+
+pub returns : goal.returns
+returns c =
+    let ended = YieldsList-end (YieldsList-from_enumerate (YieldsList-from_vec c.args.prepared.items (cc) (cc)) cc) c.loop-table.yielded c.loop-table.table-iterator c.loop-table.yielded_by c.next.result c.next.new.self c.in-None.is c.next.ensures.steps in
+    let long : length c.loop-table.yielded ≡ length c.args.tables.now.items = ended.1 ∙ length-enumerate_from 0 c.args.prepared.items ∙ c.requires.fits.count in
+    changed_all c.args.tables.now.items c.args.prepared.items c.loop-table.tables.items (subst (λ (n : ℕ). AreChangedTo n c.args.tables.now.items c.args.prepared.items c.loop-table.tables.items) long c.loop-table.invariant.changed)

@@ -1,0 +1,88 @@
+// What a change does to all tables.
+ghost use Rattle.std.specs.Prelude.{◌≡◌, ◌+◌, ◌-◌, nat_lt, length, vec_len, IfOk, OnOk};
+ghost use Rattle.wh_store.specs.Commit.{CanApplyAll, AreKept, AreChanged, HasRoom, first_over_after};
+ghost use Rattle.wh_store.specs.Image.{row_limit};
+
+use std::alloc::Global;
+use std::mem;
+use wh_base::{Delta, NoMemory, Sequence, StoredDeltas};
+use wh_table::{Prepared, Table, Tables};
+
+/// The most rows that a stored table may have.
+const MOST_ROWS: usize = 4_000_000;
+
+fn prepare_each(
+    alloc: Global,
+    tables: &mut Vec<Table>,
+    deltas: StoredDeltas,
+) -> Result<Vec<Prepared>, NoMemory>
+    requires { length deltas ≡ vec_len tables.old }
+    ensures prepared { IfOk result (λ made. made.items ≡ deltas) }
+    ensures kept { AreKept tables.old.items tables.new.items }
+    ensures room { OnOk result (HasRoom tables.new.items deltas) }
+{
+    let mut prepared = Vec::with_capacity(alloc, deltas.len())?;
+    for (table, delta) in deltas.into_vec().into_iter().enumerate() {
+        prepared.push(tables[table].prepare(alloc, delta)?)?;
+    }
+    Ok(prepared)
+}
+
+/// Takes all memory that the deltas need, one for each table. The rows stay.
+pub(crate) fn prepare_all(
+    alloc: Global,
+    tables: &mut Tables,
+    deltas: StoredDeltas,
+) -> Result<Vec<Prepared>, NoMemory>
+    requires { length deltas ≡ length tables.old }
+    ensures prepared { IfOk result (λ made. made.items ≡ deltas) }
+    ensures kept { AreKept tables.old tables.new }
+    ensures room { OnOk result (HasRoom tables.new deltas) }
+{
+    let mut items = mem::replace(tables, Tables::new(alloc)).into_vec();
+    let prepared = prepare_each(alloc, &mut items, deltas);
+    *tables = Sequence::from_vec(items);
+    prepared
+}
+
+fn apply_each(tables: &mut Vec<Table>, prepared: Vec<Prepared>)
+    requires fits { CanApplyAll tables.old.items prepared.items }
+    requires room { HasRoom tables.old.items prepared.items }
+    ensures { AreChanged tables.old.items prepared.items tables.new.items }
+{
+    for (table, change) in prepared.into_iter().enumerate() {
+        tables[table].apply(change);
+    }
+}
+
+/// Makes a change of all tables, for which there is room.
+pub(crate) fn apply_all(tables: &mut Tables, prepared: Vec<Prepared>)
+    requires fits { CanApplyAll tables.old prepared.items }
+    requires room { HasRoom tables.old prepared.items }
+    ensures { AreChanged tables.old prepared.items tables.new }
+{
+    let none = Tables::new(*prepared.allocator());
+    let mut items = mem::replace(tables, none).into_vec();
+    apply_each(&mut items, prepared);
+    *tables = Sequence::from_vec(items);
+}
+
+// Whether a table would have too many rows.
+fn is_over(table: &Table, delta: &Delta) -> bool
+    ensures { result ≡ nat_lt row_limit (length table.now.rows - length delta.now.deleted + length delta.now.inserted) }
+{
+    let kept = table.len().saturating_sub(delta.deleted.len());
+    kept.saturating_add(delta.inserted.len()) > MOST_ROWS
+}
+
+/// The first table that would have too many rows.
+pub(crate) fn first_over(tables: &Tables, deltas: &StoredDeltas) -> Option<usize>
+    requires { length deltas.now ≡ length tables.now }
+    ensures { result ≡ first_over_after tables.now deltas.now }
+{
+    tables
+        .as_slice()
+        .iter()
+        .zip(deltas.as_slice())
+        .position(|(table, delta)| is_over(table, delta))
+}
