@@ -6,6 +6,7 @@ use Rattle.std.proofs.lemmas.Bool.{cases_lt, cases_eq}
 use Rattle.std.proofs.lemmas.List.{get_or-set_same, get_or-set_other, get_or_default, take_more}
 use Rattle.std.proofs.lemmas.List.FromFn.{get_or-enumerate_from, length-enumerate_from, get_or-range_with_len, length-range_with_len}
 use Rattle.std.proofs.lemmas.Slice.Zip.{length-zip, get_or-zip}
+use Rattle.std.proofs.lemmas.List.Quantifiers.{position-Some}
 use Rattle.std.proofs.lemmas.List.Sums.{prefix_len-le-length, position_or_len_is, fails_before_first, passes_at_first}
 use Rattle.wh_base.specs.declared.value.Delta.{Delta}
 use Rattle.wh_base.specs.RowSet.{SameRows}
@@ -171,3 +172,8 @@ room_by n m old mid deltas i d t u here next value count so_far step has before 
 pub taken_by : (n m : ℕ) (deltas old new : List Delta) (i : ℕ) (d p : Delta) → (n < length deltas) × (i ≡ n) × (d ≡ get_or deltas n no_delta) → m ≡ n + 1 → old ≡ take n deltas → p ≡ d → new ≡ old ++ p ∷ [] → new ≡ take m deltas
 taken_by n m deltas old new i d p here next so_far same push =
     push ∙ ap (λ (x : Delta). old ++ x ∷ []) (same ∙ here.2) ∙ ap (λ (xs : List Delta). xs ++ get_or deltas n no_delta ∷ []) so_far ∙ sym (take_more deltas n no_delta here.0) ∙ ap (λ (k : ℕ). take k deltas) (sym next)
+
+-- the first table that passes is one of them
+pub first_over_inside : (tables : List IndexedRows) (deltas : List Delta) (k : ℕ) → first_over_after tables deltas ≡ Some k → k < length tables
+first_over_inside tables deltas k found =
+    omega (arith, (position-Some (λ n. ltb row_limit (rows_after tables deltas n)) (numbers (length tables)) k 0 found).0, length-range_with_len 0 (length tables))

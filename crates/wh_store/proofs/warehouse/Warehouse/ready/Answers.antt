@@ -1,0 +1,9 @@
+use Rattle.std.proofs.Common.{◌≡◌, ℕ, ◌<◌, length, Some, sym, ◌∙◌, arith, tests, rules}
+use Rattle.wh_store.specs.Commit.{first_over_after}
+use Rattle.wh_store.proofs.TableSteps.{first_over_inside}
+use Rattle.wh_store.proofs.warehouse.Warehouse.ready.Goals as goal
+
+pub overflow_cast-table : goal.overflow_cast-table
+overflow_cast-table c =
+    let found : first_over_after c.args.self.now.tables c.args.deltas ≡ Some c.in-Some.table = sym c.first_over.ensures ∙ c.in-Some.is in
+    omega (arith, first_over_inside c.args.self.now.tables c.args.deltas c.in-Some.table found, c.requires.applies.count, c.requires.count)
