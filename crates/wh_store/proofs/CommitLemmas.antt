@@ -107,9 +107,9 @@ first_later a b active which e =
     record {
       image = ap (λ (x : Image). Ok (Some x)) by.2;
       other = λ i same.
-        let level : i.generation ≡ a.generation = same ∙ ap (λ (x : Image). x.generation) (sym by.2) in
-        ap (λ (p : Bool). later_by p (ltb b.generation i.generation) i b) (ap (λ (n : ℕ). eqb n b.generation) level ∙ by.0)
-        ∙ ap (λ (q : Bool). later_by false q i b) (ap (λ (n : ℕ). ltb b.generation n) level ∙ by.1);
+          let level : i.generation ≡ a.generation = same ∙ ap (λ (x : Image). x.generation) (sym by.2) in
+          ap (λ (p : Bool). later_by p (ltb b.generation i.generation) i b) (ap (λ (n : ℕ). eqb n b.generation) level ∙ by.0)
+          ∙ ap (λ (q : Bool). later_by false q i b) (ap (λ (n : ℕ). ltb b.generation n) level ∙ by.1);
     }
 
 second_later : (a b : Image) (active : Active) → active.which ≡ Second → later_of a b ≡ Ok (Some active) → IsSecond active (Ok (Some a)) (Ok (Some b))
@@ -119,9 +119,9 @@ second_later a b active which e =
     record {
       image = ap (λ (x : Image). Ok (Some x)) by.2;
       other = λ i same.
-        let level : i.generation ≡ b.generation = same ∙ ap (λ (x : Image). x.generation) (sym by.2) in
-        ap (λ (p : Bool). later_by p (ltb i.generation a.generation) a i) (ap (λ (n : ℕ). eqb a.generation n) level ∙ by.0)
-        ∙ ap (λ (q : Bool). later_by false q a i) (ap (λ (n : ℕ). ltb n a.generation) level ∙ by.1);
+          let level : i.generation ≡ b.generation = same ∙ ap (λ (x : Image). x.generation) (sym by.2) in
+          ap (λ (p : Bool). later_by p (ltb i.generation a.generation) a i) (ap (λ (n : ℕ). eqb a.generation n) level ∙ by.0)
+          ∙ ap (λ (q : Bool). later_by false q a i) (ap (λ (n : ℕ). ltb n a.generation) level ∙ by.1);
     }
 
 is_first : (x y : Result (Option Image) ℕ) (active : Active) → active.which ≡ First → both x y ≡ Ok (Some active) → IsFirst active x y
@@ -210,8 +210,8 @@ module _ (deltas : List Delta) (w : Warehouse) (new : List IndexedRows) (changed
         form = form_after is.form;
         spec = is.spec;
         rows = λ k below. subst (λ (rows : List Row). SameRows (table_at new k).rows rows)
-          (sym (get_or-map-range_with_len (λ n. changed_table (get_or i.tables n []) (get_or deltas n no_delta)) 0 (length i.tables) k k [] (omega (arith, below, count)) (omega arith)))
-          (rows_changed (table_at w.tables k).rows (get_or i.tables k []) (get_or deltas k no_delta) (table_at new k).rows (is.rows k below) (changed.rows k (omega (arith, below, held))));
+            (sym (get_or-map-range_with_len (λ n. changed_table (get_or i.tables n []) (get_or deltas n no_delta)) 0 (length i.tables) k k [] (omega (arith, below, count)) (omega arith)))
+            (rows_changed (table_at w.tables k).rows (get_or i.tables k []) (get_or deltas k no_delta) (table_at new k).rows (is.rows k below) (changed.rows k (omega (arith, below, held))));
         seq = ap (λ (n : ℕ). n + 1) is.seq;
       }
 
@@ -236,11 +236,11 @@ module _ (deltas : List Delta) (w : Warehouse) (new : List IndexedRows) (changed
   advances a b c d frames other journal active is may =
       let which : p.which ≡ active.which = is.place.which in
       let more : frames_of (file_in active.which c d) ≡ with_frame (frames_of (file_in active.which a b)) (change_body (active.image.seq + 1) deltas) =
-        subst (λ (x : Which). frames_of (file_in x c d) ≡ with_frame (frames_of (file_in x a b)) (change_body (active.image.seq + 1) deltas)) which
-        (frames ∙ ap (λ (bytes : List ℕ). with_frame (frames_of (file_in p.which a b)) bytes) (told ∙ ap (λ (n : ℕ). change_body (n + 1) deltas) is.warehouse.seq)) in
+      subst (λ (x : Which). frames_of (file_in x c d) ≡ with_frame (frames_of (file_in x a b)) (change_body (active.image.seq + 1) deltas)) which
+      (frames ∙ ap (λ (bytes : List ℕ). with_frame (frames_of (file_in p.which a b)) bytes) (told ∙ ap (λ (n : ℕ). change_body (n + 1) deltas) is.warehouse.seq)) in
       record {
         holds = sym (rejoined active.which a b c d (subst (λ (x : Which). other_of x c d ≡ other_of x a b) which other))
-          ∙ held_more active deltas a b (file_in active.which c d) (omega (arith, small, is.warehouse.seq)) is.holds may more;
+            ∙ held_more active deltas a b (file_in active.which c d) (omega (arith, small, is.warehouse.seq)) is.holds may more;
         warehouse = warehouse_after deltas w new changed active.image is.warehouse may.allowed;
         place = place_after active a b c d is.place is.warehouse.seq journal;
       }
@@ -258,14 +258,18 @@ module _ (deltas : List Delta) (w : Warehouse) (new : List IndexedRows) (changed
     where
       some_frames : (r s : Result (List (List ℕ)) ℕ) → ◌≡◌ {A = Option (Result (List (List ℕ)) ℕ)} (Some r) (Some s) → r ≡ s
       some_frames r s e = cc
+
       some_bytes : (r s : List ℕ) → ◌≡◌ {A = Option (List ℕ)} (Some r) (Some s) → r ≡ s
       some_bytes r s e = cc
+
       frames_in : (x : Which) (a b c d : List ℕ) → option_map frames_of (active_of x (Some c) (Some d)) ≡ option_map (λ file. with_frame (frames_of file) body) (active_of x (Some a) (Some b)) → frames_of (file_in x c d) ≡ with_frame (frames_of (file_in x a b)) body
       frames_in First a b c d e = some_frames (frames_of c) (with_frame (frames_of a) body) e
       frames_in Second a b c d e = some_frames (frames_of d) (with_frame (frames_of b) body) e
+
       other_in : (x : Which) (a b c d : List ℕ) → other_of x (Some c) (Some d) ≡ other_of x (Some a) (Some b) → other_of x c d ≡ other_of x a b
       other_in First a b c d e = some_bytes d b e
       other_in Second a b c d e = some_bytes c a e
+
       active_some : (x : Which) (c d : List ℕ) → active_of x (Some c) (Some d) ≡ Some (file_in x c d)
       active_some First c d = refl
       active_some Second c d = refl
@@ -281,8 +285,8 @@ module _ (deltas : List Delta) (w : Warehouse) (small : w.seq < 2 ^ 64 - 1) (p :
       let body_is : body ≡ change_body (active.image.seq + 1) deltas = told ∙ ap (λ (n : ℕ). change_body (n + 1) deltas) is.warehouse.seq in
       leaves_map moment images_since old now (IsBeforeOrAfter (file_in p.which a b) body) (IsHeldBeforeOrAfter active deltas a b)
       (λ c left. ⊎_elim (λ same. inl (held_same active a b c is.holds (same ∙ ap (λ (x : Which). frames_of (file_in x a b)) which)))
-        (λ more. inr (held_more active deltas a b c (omega (arith, small, is.warehouse.seq)) is.holds may
-          (more ∙ ap (λ (x : Which). with_frame (frames_of (file_in x a b)) body) which ∙ ap (λ (bytes : List ℕ). with_frame (frames_of (file_in active.which a b)) bytes) body_is))) left)
+      (λ more. inr (held_more active deltas a b c (omega (arith, small, is.warehouse.seq)) is.holds may
+      (more ∙ ap (λ (x : Which). with_frame (frames_of (file_in x a b)) body) which ∙ ap (λ (bytes : List ℕ). with_frame (frames_of (file_in active.which a b)) bytes) body_is))) left)
       (one_of p.which leaves)
     where
       one_of : (x : Which) → IfSome (active_of x (Some a) (Some b)) (λ file. LeavesOnly moment images_since old now (IsBeforeOrAfter file body)) → LeavesOnly moment images_since old now (IsBeforeOrAfter (file_in x a b) body)

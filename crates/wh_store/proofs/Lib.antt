@@ -1,2 +1,3 @@
 mod CommitLemmas
+pub mod FirstByte
 mod TableSteps

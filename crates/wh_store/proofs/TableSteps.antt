@@ -43,11 +43,11 @@ pub changed_more : (n : ℕ) (old : List IndexedRows) (deltas : List Delta) (mid
 changed_more n old deltas mid t within so_far step = record {
   count = length-set mid n t ∙ so_far.count;
   done = λ k below. ⊎_elim
-    (λ here. subst (λ (j : ℕ). IsChanged (table_at old j) (get_or deltas j no_delta) (table_at (set mid n t) j)) (sym here.0)
+      (λ here. subst (λ (j : ℕ). IsChanged (table_at old j) (get_or deltas j no_delta) (table_at (set mid n t) j)) (sym here.0)
       (subst (λ (x : IndexedRows). IsChanged (table_at old n) (get_or deltas n no_delta) x) (sym (get_or-set_same mid n t no_table (omega (arith, so_far.count, within))))
       (subst (λ (x : IndexedRows). IsChanged x (get_or deltas n no_delta) t) (so_far.rest n (omega arith)) step)))
-    (λ there. subst (λ (x : IndexedRows). IsChanged (table_at old k) (get_or deltas k no_delta) x) (sym there.1) (so_far.done k (below_other k n below there.0)))
-    (at_set mid n k t (omega (arith, so_far.count, within)));
+      (λ there. subst (λ (x : IndexedRows). IsChanged (table_at old k) (get_or deltas k no_delta) x) (sym there.1) (so_far.done k (below_other k n below there.0)))
+      (at_set mid n k t (omega (arith, so_far.count, within)));
   rest = λ k above. get_or-set_other mid n k t no_table (λ (same : k ≡ n). omega arith) ∙ so_far.rest k (omega arith);
 }
   where
@@ -96,8 +96,8 @@ pub room_more : (n : ℕ) (mid : List IndexedRows) (deltas : List Delta) (t : In
 room_more n mid deltas t within step here before k below =
     ⊎_elim (λ less. omega (arith, before k less, (kept_at mid n k t within step).room))
     (λ more. let same : k ≡ n = omega arith in
-      subst (λ (j : ℕ). length (get_or deltas j no_delta).inserted ≤ (table_at (set mid n t) j).spare) (sym same)
-      (subst (λ (x : IndexedRows). length (get_or deltas n no_delta).inserted ≤ x.spare) (sym (get_or-set_same mid n t no_table within)) here))
+    subst (λ (j : ℕ). length (get_or deltas j no_delta).inserted ≤ (table_at (set mid n t) j).spare) (sym same)
+    (subst (λ (x : IndexedRows). length (get_or deltas n no_delta).inserted ≤ x.spare) (sym (get_or-set_same mid n t no_table within)) here))
     (cases_lt k n)
 
 -- ---- the first place that passes
@@ -109,8 +109,8 @@ position_same p q xs ys d e long agree =
     let i : ℕ = position_or_len p xs in
     let within : i ≤ length xs = prefix_len-le-length (λ x. not (p x)) xs in
     let same : position_or_len q ys ≡ i = position_or_len_is q ys i e (omega (arith, long, within))
-      (λ k below. agree k (omega (arith, within, below)) ∙ fails_before_first p xs k d below)
-      (λ inside. agree i (omega (arith, long, inside)) ∙ passes_at_first p xs d (omega (arith, long, inside))) in
+    (λ k below. agree k (omega (arith, within, below)) ∙ fails_before_first p xs k d below)
+    (λ inside. agree i (omega (arith, long, inside)) ∙ passes_at_first p xs d (omega (arith, long, inside))) in
     rw (same, long) refl
 
 -- whether a table would have too many rows after its delta
@@ -121,9 +121,9 @@ pub first_over_zipped : (tables : List IndexedRows) (deltas : List Delta) → le
 first_over_zipped tables deltas one_each =
     let long : length (zip tables deltas) ≡ length tables = omega (arith, length-zip tables deltas, one_each) in
     position_same passes_limit (λ k. ltb row_limit (rows_after tables deltas k)) (zip tables deltas) (numbers (length tables)) (no_table, no_delta) 0
-      (length-range_with_len 0 (length tables) ∙ sym long)
-      (λ k below. rw (get_or-range_with_len 0 (length tables) k 0 (omega (arith, long, below)), get_or-zip tables deltas k (no_table, no_delta) (omega (arith, long, below)) (omega (arith, long, below, one_each)))
-        (ap (λ (n : ℕ). ltb row_limit (rows_after tables deltas n)) (omega arith)))
+    (length-range_with_len 0 (length tables) ∙ sym long)
+    (λ k below. rw (get_or-range_with_len 0 (length tables) k 0 (omega (arith, long, below)), get_or-zip tables deltas k (no_table, no_delta) (omega (arith, long, below)) (omega (arith, long, below, one_each)))
+    (ap (λ (n : ℕ). ltb row_limit (rows_after tables deltas n)) (omega arith)))
 
 -- ---- a turn of a loop over numbered items
 

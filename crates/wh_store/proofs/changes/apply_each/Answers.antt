@@ -20,7 +20,7 @@ apply-requires c =
     let turn = YieldsList-turn (YieldsList-from_enumerate (YieldsList-from_vec c.args.prepared.items (cc) (cc)) cc) c.loop-table.yielded c.loop-table.table-iterator c.loop-table.yielded_by c.next.result c.next.new.self (c.in-Some.table, c.in-Some.change) c.in-Some.is c.next.ensures.steps in
     let here = turned c.args.prepared.items (length c.loop-table.yielded) c.in-Some.table c.in-Some.change no_delta turn.0 turn.1 in
     may_change (length c.loop-table.yielded) c.args.tables.now.items c.args.prepared.items c.loop-table.tables.items c.in-Some.table c.in-Some.change c.index_mut.result.now
-      here c.index_mut.ensures.value c.requires.fits c.requires.room c.loop-table.invariant.changed
+    here c.index_mut.ensures.value c.requires.fits c.requires.room c.loop-table.invariant.changed
 
 pub loop-table-preserved : goal.loop-table-preserved
 loop-table-preserved c =
@@ -30,7 +30,7 @@ loop-table-preserved c =
       can = search rules;
       finite = search rules;
       changed = changed_by (length c.loop-table.yielded) (length (c.loop-table.yielded ++ (c.in-Some.table, c.in-Some.change) ∷ [])) c.args.tables.now.items c.args.prepared.items c.loop-table.tables.items c.in-Some.table c.in-Some.change c.index_mut.result.now c.apply.new.self
-        here (length_push c.loop-table.yielded (c.in-Some.table, c.in-Some.change)) c.index_mut.ensures.value c.requires.fits.count c.loop-table.invariant.changed (record { rows = c.apply.ensures.rows; width = c.apply.ensures.width; indexes = c.apply.ensures.indexes });
+          here (length_push c.loop-table.yielded (c.in-Some.table, c.in-Some.change)) c.index_mut.ensures.value c.requires.fits.count c.loop-table.invariant.changed (record { rows = c.apply.ensures.rows; width = c.apply.ensures.width; indexes = c.apply.ensures.indexes });
     }
 
 pub returns : goal.returns

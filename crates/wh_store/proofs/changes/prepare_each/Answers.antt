@@ -26,10 +26,10 @@ loop-table-preserved c =
       can = search rules;
       finite = search rules;
       prepared = taken_by (length c.loop-table.yielded) (length (c.loop-table.yielded ++ (c.in-Some.table, c.in-Some.delta) ∷ [])) c.args.deltas c.loop-table.prepared.items c.push.new.self.items c.in-Some.table c.in-Some.delta c.in_ok-prepare.field-0
-        here next c.loop-table.invariant.prepared c.in_ok-prepare.ensures.prepared c.in_ok-push.ensures.items;
+          here next c.loop-table.invariant.prepared c.in_ok-prepare.ensures.prepared c.in_ok-push.ensures.items;
       kept = kept_by (length c.loop-table.yielded) c.args.tables.now.items c.loop-table.tables.items c.in-Some.table c.index_mut.result.now c.prepare.new.self (omega (arith, here.0, count)) here.1 c.index_mut.ensures.value c.loop-table.invariant.kept step;
       room = room_by (length c.loop-table.yielded) (length (c.loop-table.yielded ++ (c.in-Some.table, c.in-Some.delta) ∷ [])) c.args.tables.now.items c.loop-table.tables.items c.args.deltas c.in-Some.table c.in-Some.delta c.index_mut.result.now c.prepare.new.self
-        here next c.index_mut.ensures.value count c.loop-table.invariant.kept step c.in_ok-prepare.ensures.room c.loop-table.invariant.room;
+          here next c.index_mut.ensures.value count c.loop-table.invariant.kept step c.in_ok-prepare.ensures.room c.loop-table.invariant.room;
     }
 
 pub returns-in_err-push-clause-kept : goal.returns-in_err-push-clause-kept

@@ -27,19 +27,19 @@ returns-in-Ok-clause-any_moment g c = λ settled.
     let which = c.args.place.now.which in
     let old = content_of g.D.Disk.content which c.args.first.now c.args.second.now in
     let leaves : IfSome (g.D.Disk.content (active_of which c.args.first.now c.args.second.now)) (λ (file : List ℕ). LeavesOnly g.D.Disk.moment g.D.Disk.images_since (active_of which c.args.first.now c.args.second.now)
-      (active_of which c.write_active.new.first c.write_active.new.second) (IsBeforeOrAfter file c.args.r.body)) = search rules in
+    (active_of which c.write_active.new.first c.write_active.new.second) (IsBeforeOrAfter file c.args.r.body)) = search rules in
     held_moments c.args.r.deltas c.args.self.now c.requires.seq c.args.place.now c.args.r.body c.requires.body g.D.Disk.moment g.D.Disk.images_since
     (active_of which c.args.first.now c.args.second.now) (active_of which c.write_active.new.first c.write_active.new.second) (g.D.Disk.content c.args.first.now) (g.D.Disk.content c.args.second.now)
     (subst (λ (x : Option (List ℕ)). IfSome x (λ (file : List ℕ). LeavesOnly g.D.Disk.moment g.D.Disk.images_since (active_of which c.args.first.now c.args.second.now)
-      (active_of which c.write_active.new.first c.write_active.new.second) (IsBeforeOrAfter file c.args.r.body))) old leaves)
+    (active_of which c.write_active.new.first c.write_active.new.second) (IsBeforeOrAfter file c.args.r.body))) old leaves)
 
 pub returns-in-Err-clause-any_moment : goal.returns-in-Err-clause-any_moment
 returns-in-Err-clause-any_moment g c = λ settled.
     let which = c.args.place.now.which in
     let old = content_of g.D.Disk.content which c.args.first.now c.args.second.now in
     let leaves : IfSome (g.D.Disk.content (active_of which c.args.first.now c.args.second.now)) (λ (file : List ℕ). LeavesOnly g.D.Disk.moment g.D.Disk.images_since (active_of which c.args.first.now c.args.second.now)
-      (active_of which c.write_active.new.first c.write_active.new.second) (IsBeforeOrAfter file c.args.r.body)) = search rules in
+    (active_of which c.write_active.new.first c.write_active.new.second) (IsBeforeOrAfter file c.args.r.body)) = search rules in
     held_moments c.args.r.deltas c.args.self.now c.requires.seq c.args.place.now c.args.r.body c.requires.body g.D.Disk.moment g.D.Disk.images_since
     (active_of which c.args.first.now c.args.second.now) (active_of which c.write_active.new.first c.write_active.new.second) (g.D.Disk.content c.args.first.now) (g.D.Disk.content c.args.second.now)
     (subst (λ (x : Option (List ℕ)). IfSome x (λ (file : List ℕ). LeavesOnly g.D.Disk.moment g.D.Disk.images_since (active_of which c.args.first.now c.args.second.now)
-      (active_of which c.write_active.new.first c.write_active.new.second) (IsBeforeOrAfter file c.args.r.body))) old leaves)
+    (active_of which c.write_active.new.first c.write_active.new.second) (IsBeforeOrAfter file c.args.r.body))) old leaves)
