@@ -1,0 +1,11 @@
+pub mod AcceptedKinds
+pub mod Carried
+pub mod DumpLemmas
+pub mod Each
+pub mod JoinedKinds
+pub mod KindLemmas
+pub mod LineLemmas
+pub mod Loads
+pub mod SpelledTables
+pub mod StoredKinds
+pub mod TextSpecs

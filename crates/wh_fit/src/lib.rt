@@ -1,0 +1,65 @@
+//! Rows that are read have the kinds of their attributes and values that have a spelling, and so has what is stored of them: laws, each as
+//! the clause of a function that does nothing.
+#![tactic(auto)]
+
+ghost use Rattle.wh_fit.specs.Fit.{FittingIsState, ValuesAreCarried, ComplementsAreRows, TextsAreWellFormed, StoredFits, StoredIsSpelled, UnderIsCounted, DumpsFit, DumpsAreLoaded, ChangesFit, LinesKeepFit, BodiesAreRead};
+
+/// A state whose rows have the kinds of their attributes has rows of the right widths.
+pub fn fitting_is_state()
+    ensures { FittingIsState }
+{}
+
+/// Each value of a row of a view stands under the same name in a row of a relation of the view.
+pub fn values_are_carried()
+    ensures { ValuesAreCarried }
+{}
+
+/// Each row of a complement is a row of its relation.
+pub fn complements_are_rows()
+    ensures { ComplementsAreRows }
+{}
+
+/// The specification of a text is well formed and within the limits.
+pub fn texts_are_well_formed()
+    ensures { TextsAreWellFormed }
+{}
+
+/// What is stored of a state whose rows have the kinds of their attributes has the kinds of the stored tables.
+pub fn stored_fits()
+    ensures { StoredFits }
+{}
+
+/// What is stored of a state whose values have a spelling has a spelling.
+pub fn stored_is_spelled()
+    ensures { StoredIsSpelled }
+{}
+
+/// Tables of which none is over the limit have few enough rows for a spelling.
+pub fn under_is_counted()
+    ensures { UnderIsCounted }
+{}
+
+/// The rows of a dump have the kinds of the attributes, and values that have a spelling.
+pub fn dumps_fit()
+    ensures { DumpsFit }
+{}
+
+/// What is stored of a state that dumps give, by the specification of a text, is what a store asks of tables to load.
+pub fn dumps_are_loaded()
+    ensures { DumpsAreLoaded }
+{}
+
+/// The lines of a change file have rows of their relations' kinds, with values that have a spelling.
+pub fn changes_fit()
+    ensures { ChangesFit }
+{}
+
+/// A state keeps its kinds and its spelling through lines that have them.
+pub fn lines_keep_fit()
+    ensures { LinesKeepFit }
+{}
+
+/// The body of a frame that has one is read as this frame.
+pub fn bodies_are_read()
+    ensures { BodiesAreRead }
+{}
