@@ -1,18 +1,17 @@
 -- Accepted statements give each name one kind, and heads that are not too long.
-use Rattle.std.proofs.Common.{◌≡◌, ◌≢◌, ℕ, suc, zero, ◌+◌, ◌*◌, ◌≤◌, ◌<◌, Bool, true, false, not, ◌&&◌, List, [], ◌∷◌, ◌++◌, map, filter, length, get_or, Option, Some, None, Result, Ok, Err, Contains, refl, sym, ◌∙◌, ap, subst, inl, inr, arith}
-use Rattle.std.specs.List.{IsDistinct, AllByRecursion, list_any}
-use Rattle.std.specs.Set.{is_member}
-use Rattle.std.proofs.lemmas.Bool.{and_from, cases_Bool, not-false, true≢false}
+use Rattle.std.proofs.Common.{◌≡◌, ℕ, suc, zero, ◌+◌, ◌≤◌, true, false, not, List, [], ◌∷◌, ◌++◌, length, get_or, Option, Some, None, Result, Ok, Err, Contains, refl, sym, ◌∙◌, ap, subst, inl, inr, arith}
+use Rattle.std.specs.List.{IsDistinct, list_any}
+use Rattle.std.proofs.lemmas.Bool.{and_from, cases_Bool, true≢false}
 use Rattle.std.specs.Prelude.{nat_lt}
 use Rattle.std.proofs.lemmas.Bool.Decides.{nat_tests}
 use Rattle.std.proofs.lemmas.List.{length-map}
-use Rattle.std.proofs.lemmas.List.Elements.{Contains-append_cases, Contains-get_or}
+use Rattle.std.proofs.lemmas.List.Elements.{Contains-append_cases}
 use Rattle.std.proofs.lemmas.Map.Made.{length-le_from_is_member}
 use Rattle.std.proofs.lemmas.Cmp.{nat_list_eq_equiv}
 use Rattle.wh_base.specs.declared.value.Attr.{Attr}
 use Rattle.wh_base.specs.declared.value.Kind.{Kind}
 use Rattle.wh_base.specs.declared.value.Kind.TheVariants.{Int, Text}
-use Rattle.wh_base.specs.Columns.{name_eq, is_in, names_of}
+use Rattle.wh_base.specs.Columns.{name_eq, names_of}
 use Rattle.wh_base.specs.Cond.{kind_of, faults}
 use Rattle.wh_schema.specs.declared.fault.SpecFault.{SpecFault}
 use Rattle.wh_schema.specs.declared.raw.RawRelation.{RawRelation}
@@ -24,7 +23,7 @@ use Rattle.wh_schema.specs.declared.spec.Spec.{Spec}
 use Rattle.wh_schema.specs.declared.spec.View.{View}
 use Rattle.wh_schema.specs.Rules
 use Rattle.wh_schema.specs.Rules.{added, empty_spec, relation_of, view_of, head_or, written_head, members, member_attrs, number_of, rule_faults, next, checked_from, and_then, same_kind, is_clash, clashes, broken_by}
-use Rattle.wh_schema.specs.Warehouse.{no_relation, relation_at}
+use Rattle.wh_schema.specs.Warehouse.{no_relation}
 use Rattle.wh_schema.proofs.Accepted.{next_ok, no_left, no_right, not_broken}
 use Rattle.wh_laws.proofs.Acceptance.{all_known, none_again, none_passes, not_found}
 use Rattle.wh_laws.proofs.Equality.{Name, name_eq_decides, is_in_decides}

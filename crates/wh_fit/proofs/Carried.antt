@@ -1,10 +1,10 @@
 -- The values of the rows of views and complements stand in rows of the sources.
-use Rattle.std.proofs.Common.{◌≡◌, ℕ, zero, suc, ◌<◌, Bool, true, not, List, [], ◌∷◌, map, length, get_or, Contains, refl, sym, ◌∙◌, ap, le_of_suc-le-suc, arith}
+use Rattle.std.proofs.Common.{◌≡◌, ℕ, zero, suc, ◌<◌, true, not, List, [], ◌∷◌, map, length, get_or, Contains, refl, sym, ◌∙◌, ap, le_of_suc-le-suc, arith}
 use Rattle.std.proofs.lemmas.List.{length-map}
 use Rattle.std.proofs.lemmas.List.Elements.{Contains-get_or}
 use Rattle.wh_base.specs.declared.value.Attr.{Attr}
 use Rattle.wh_base.specs.declared.value.Value.{Value}
-use Rattle.wh_base.specs.Columns.{value_at, value_of}
+use Rattle.wh_base.specs.Columns.{value_at}
 use Rattle.wh_base.specs.RowSet.{has}
 use Rattle.wh_schema.specs.declared.spec.Spec.{Spec}
 use Rattle.wh_schema.specs.Legality.{WellFormed, IsState}
@@ -12,7 +12,7 @@ use Rattle.wh_schema.specs.Warehouse.{Row, State, columns_of, relation_at, view_
 use Rattle.wh_laws.proofs.Equality.{Name, has_decides}
 use Rattle.wh_laws.proofs.Joins.{value_of-map}
 use Rattle.wh_laws.proofs.Lists.{filter_from}
-use Rattle.wh_laws.proofs.Views.{ViewRow, view_from}
+use Rattle.wh_laws.proofs.Views.{view_from}
 use Rattle.wh_fit.specs.Fit.{IsCarried, IsFittingState}
 use Rattle.wh_fit.proofs.KindLemmas.{fits_from, width_is}
 
@@ -27,8 +27,7 @@ module _ (spec : Spec) (s : State) where
       × ((p : ℕ) → p < length (view_at spec j).head → IsCarried spec s (view_at spec j).relations (get_or (view_at spec j).head p []) (value_at w p))
   carried wf st j l w h =
       let v = view_from spec s wf st j l w ((has_decides (view_table spec s j).rows w).0 h) in
-      let head = (view_at spec j).head in
-      (
+      let head = (view_at spec j).head in (
         ap length v.row ∙ length-map head v.at,
         λ p m.
             let n = get_or head p [] in

@@ -1,5 +1,5 @@
 -- The rows of a dump have the kinds of the attributes, and their values have a spelling.
-use Rattle.std.proofs.Common.{◌≡◌, ℕ, zero, suc, ◌+◌, ◌<◌, ◌≤◌, ◌==◌, Bool, true, false, cond, if◌then◌else◌, List, [], ◌∷◌, map, length, Option, Some, None, Result, Ok, Err, Contains, refl, sym, ◌∙◌, ap, subst, inl, inr, arith}
+use Rattle.std.proofs.Common.{◌≡◌, ℕ, suc, ◌+◌, ◌<◌, ◌≤◌, ◌==◌, Bool, true, false, cond, if◌then◌else◌, List, [], ◌∷◌, map, length, Option, Some, None, Result, Ok, Err, Contains, refl, sym, ◌∙◌, ap, subst, inl, inr, arith}
 use Rattle.std.specs.Prelude.{pos, FitsSigned, count_by, unwrap_or, nat_lt}
 use Rattle.std.specs.Int.{w64}
 use Rattle.std.specs.List.{AllByRecursion}
@@ -188,13 +188,12 @@ rows_fit attrs header rs rows is e =
     let from : (x : Row) → Contains rows x → (r : Record) × Contains rs r × (row_of attrs header r ≡ x) = λ x k.
     let seen : Contains (first_seen o.0) x = subst (λ z. Contains z x) (sym o.2) k in
     let read : Contains (map (row_of attrs header) rs) x = subst (λ z. Contains z x) (sym good.1) (seen_from row_eq o.0 x seen) in
-    map_from (row_of attrs header) rs x read in
-    (
+    map_from (row_of attrs header) rs x read in (
       fits_in attrs rows (λ x k. let r = from x k in ap row_kinds (sym r.2) ∙ row_kinds-row_of attrs header r.0),
       each_in (AllByRecursion IsSpelledValue) rows (λ x k.
-      let r = from x k in
-      let one = each_fine broken rs 2 good.0 r.0 r.1 in
-      subst (AllByRecursion IsSpelledValue) r.2 (row_spelled attrs header r.0 is one.1)),
+          let r = from x k in
+          let one = each_fine broken rs 2 good.0 r.0 r.1 in
+          subst (AllByRecursion IsSpelledValue) r.2 (row_spelled attrs header r.0 is one.1)),
     )
 
 records_fit : (attrs : List Attr) (rs : List Record) (rows : List Row) → rows_of attrs rs ≡ Ok rows → (fit_attrs attrs rows ≡ true) × AreSpelledRows rows

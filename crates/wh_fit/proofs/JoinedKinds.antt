@@ -1,5 +1,5 @@
 -- The kind of a name among the attributes of a join.
-use Rattle.std.proofs.Common.{◌≡◌, ◌⊎◌, ℕ, Bool, true, false, not, cond, List, [], ◌∷◌, ◌++◌, map, filter, length, Option, Some, None, Contains, refl, sym, ◌∙◌, ap, subst, inl, inr, if◌then◌else◌, arith, ◌≤◌, ◌+◌, ◌*◌}
+use Rattle.std.proofs.Common.{◌≡◌, ◌⊎◌, ℕ, Bool, true, false, not, cond, List, [], ◌∷◌, ◌++◌, map, filter, length, Option, Some, None, Contains, refl, sym, ◌∙◌, ap, inl, inr, if◌then◌else◌, arith, ◌≤◌, ◌+◌, ◌*◌}
 use Rattle.std.specs.Prelude.{fold}
 use Rattle.std.proofs.lemmas.Bool.{cases_Bool, true≢false}
 use Rattle.std.proofs.lemmas.List.{length-append}
@@ -13,7 +13,7 @@ use Rattle.wh_schema.specs.Warehouse.{relation_at}
 use Rattle.wh_laws.proofs.Equality.{Name, name_eq_decides}
 use Rattle.wh_laws.proofs.Lists.{Contains-nil, Contains-here, Contains-there, Contains-cases}
 use Rattle.wh_laws.proofs.Order.{filter_at_most}
-use Rattle.wh_fit.proofs.KindLemmas.{kind_known, kind_unknown}
+use Rattle.wh_fit.proofs.KindLemmas.{kind_known}
 
 -- the first of two kinds, where there is one
 or_kind : Option Kind → Option Kind → Option Kind

@@ -1,5 +1,5 @@
 -- Lines of changes fit, and keep a state fitting.
-use Rattle.std.proofs.Common.{◌≡◌, ◌⊎◌, ℕ, suc, ◌<◌, ◌==◌, Bool, true, false, not, cond, List, [], ◌∷◌, ◌++◌, map, filter, length, get_or, set, Option, Some, None, Ok, Contains, refl, sym, ◌∙◌, ap, subst, inl, inr, arith}
+use Rattle.std.proofs.Common.{◌≡◌, ◌⊎◌, ℕ, ◌<◌, ◌==◌, Bool, true, false, not, cond, List, [], ◌∷◌, ◌++◌, map, filter, length, get_or, None, Ok, Contains, refl, sym, ◌∙◌, ap, subst, inl, inr, arith}
 use Rattle.std.specs.Prelude.{drop, nat_lt}
 use Rattle.std.specs.List.{AllByRecursion}
 use Rattle.std.proofs.lemmas.Bool.{cases_eq, eqb-true, ltb-true}
@@ -11,8 +11,8 @@ use Rattle.wh_base.specs.RowSet.{has}
 use Rattle.wh_base.specs.Value.{kinds, row_eq, row_kinds}
 use Rattle.wh_codec.specs.Body.{IsSpelledValue}
 use Rattle.wh_csv.specs.declared.change.Line as csv
-use Rattle.wh_csv.specs.Change.{change_of, is_sign, kinds_of, line_of, number_of, numbered_fault, row_fault}
-use Rattle.wh_csv.specs.Fields.{field_at, field_fault, field_value, fields_fault, first_fault, values}
+use Rattle.wh_csv.specs.Change.{change_of, is_sign, kinds_of, line_of, number_of, numbered_fault}
+use Rattle.wh_csv.specs.Fields.{field_at, field_fault, fields_fault, first_fault, values}
 use Rattle.wh_csv.specs.Reading.{Record, records_of}
 use Rattle.wh_csv.proofs.RowLemmas.{kind_is}
 use Rattle.wh_schema.specs.declared.spec.Spec.{Spec}
@@ -126,8 +126,7 @@ lines_keep_fit spec lines s all h =
     let line : (l : Line) → Contains lines l → IsFittingLine spec l = each_from (IsFittingLine spec) lines all in
     let fits : EachRow n Fits (apply s lines) =
     lines_keep n Fits lines s h.relations (λ l k. let f = line l k in (f.relation, fits_from (relation_at spec l.relation).attrs (l.row ∷ []) f.fits l.row (Contains-here l.row [])))
-    (λ i m x k. fits_from (relation_at spec i).attrs (get_or s i []) (h.rows i m) x k) in
-    (
+    (λ i m x k. fits_from (relation_at spec i).attrs (get_or s i []) (h.rows i m) x k) in (
       record {
         relations = lines_count lines s ∙ h.relations;
         rows = λ i m. fits_in (relation_at spec i).attrs (get_or (apply s lines) i []) (fits i m);

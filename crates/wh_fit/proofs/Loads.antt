@@ -1,6 +1,5 @@
 -- States by dumps.
 use Rattle.std.proofs.Common.{◌≡◌, ℕ, List, [], Ok, get_or}
-use Rattle.std.specs.List.{AllByRecursion}
 use Rattle.wh_base.specs.RowSet.{IsAscending}
 use Rattle.wh_schema.specs.declared.spec.Spec.{Spec}
 use Rattle.wh_schema.specs.Warehouse.{State, relation_at, stored}

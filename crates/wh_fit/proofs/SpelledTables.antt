@@ -1,14 +1,11 @@
 -- What is stored of values that have a spelling has one.
-use Rattle.std.proofs.Common.{◌≡◌, ℕ, suc, ◌<◌, ◌≤◌, ◌^◌, Bool, true, false, List, [], ◌∷◌, ◌++◌, map, length, get_or, Option, Some, None, Contains, refl, sym, ◌∙◌, ap, subst, inl, inr, arith}
+use Rattle.std.proofs.Common.{◌≡◌, ℕ, ◌<◌, ◌≤◌, ◌^◌, false, List, [], ◌∷◌, map, length, get_or, None, Contains, sym, ◌∙◌, ap, subst, inl, inr, arith}
 use Rattle.std.specs.Prelude.{nat_lt}
-use Rattle.std.specs.List.{AllByRecursion, position}
-use Rattle.std.proofs.lemmas.Bool.{cases_Bool}
+use Rattle.std.specs.List.{AllByRecursion}
 use Rattle.std.proofs.lemmas.Bool.Decides.{nat_tests}
 use Rattle.std.proofs.lemmas.List.{length-map}
 use Rattle.std.proofs.lemmas.List.Elements.{Contains-get_or, Contains-append_cases}
 use Rattle.wh_base.specs.declared.value.Attr.{Attr}
-use Rattle.wh_base.specs.declared.value.Value.{Value}
-use Rattle.wh_base.specs.Columns.{names_of}
 use Rattle.wh_base.specs.RowSet.{IsAscending, in_order}
 use Rattle.wh_base.specs.Value.{kinds, row_kinds}
 use Rattle.wh_base.proofs.InOrder.{Contains-from_in_order}
@@ -18,12 +15,12 @@ use Rattle.wh_schema.specs.Heads.{typed_names}
 use Rattle.wh_schema.specs.Legality.{WellFormed}
 use Rattle.wh_schema.specs.Rules.{joined_attrs}
 use Rattle.wh_schema.specs.Warehouse.{Row, State, no_relation, numbers, columns_of, relation_at, view_at, view_table, sources_of, complement, stored}
-use Rattle.wh_store.specs.Image.{stored_attrs, first_over, row_limit}
+use Rattle.wh_store.specs.Image.{first_over, row_limit}
 use Rattle.wh_laws.proofs.Equality.{Name}
 use Rattle.wh_laws.proofs.Lists.{Contains-here, Contains-there, map_in, map_from}
 use Rattle.wh_laws.proofs.Pieces.{numbers_from}
 use Rattle.wh_laws.proofs.Stored.{stored_ascending}
-use Rattle.wh_laws.proofs.Views.{ViewRow, view_from}
+use Rattle.wh_laws.proofs.Views.{view_from}
 use Rattle.wh_fit.specs.Fit.{IsFittingState, IsSpelledState}
 use Rattle.wh_fit.proofs.AcceptedKinds.{IsKinded}
 use Rattle.wh_fit.proofs.Carried.{complement_from, fitting_is_state}

@@ -1,12 +1,9 @@
 -- What is stored of a fitting state has the kinds of the stored tables.
-use Rattle.std.proofs.Common.{◌≡◌, ◌⊎◌, ℕ, zero, suc, ◌<◌, ◌≤◌, ◌+◌, ◌-◌, ◌==◌, Bool, true, false, ◌&&◌, List, [], ◌∷◌, ◌++◌, map, length, get_or, Option, Some, None, Contains, refl, sym, ◌∙◌, ap, subst, inl, inr, arith}
+use Rattle.std.proofs.Common.{◌≡◌, ◌⊎◌, ℕ, zero, suc, ◌<◌, ◌+◌, ◌-◌, ◌==◌, true, List, [], ◌∷◌, ◌++◌, map, length, get_or, Option, Some, None, Contains, refl, sym, ◌∙◌, ap, subst, inl, inr, arith}
 use Rattle.std.specs.Prelude.{slice_get, unwrap_or}
-use Rattle.std.proofs.lemmas.Bool.{and_from, cases_Bool, cases_lt, eq-eqb}
-use Rattle.std.proofs.lemmas.List.{length-append, length-map, get_or_append_left, get_or-append-add}
+use Rattle.std.proofs.lemmas.Bool.{and_from, cases_lt, eq-eqb}
+use Rattle.std.proofs.lemmas.List.{length-append, length-map}
 use Rattle.std.proofs.lemmas.List.Elements.{Contains-get_or}
-use Rattle.std.proofs.lemmas.List.FromFn.{length-range_with_len, get_or-range_with_len}
-use Rattle.std.proofs.lemmas.Option.{slice_get-get_or}
-use Rattle.std.proofs.lemmas.List.{get_or-map}
 use Rattle.wh_base.specs.declared.head.Head.{Head}
 use Rattle.wh_base.specs.declared.value.Attr.{Attr}
 use Rattle.wh_base.specs.declared.value.Kind.{Kind}
@@ -18,16 +15,14 @@ use Rattle.wh_base.specs.Heads.{attrs_at}
 use Rattle.wh_base.specs.RowSet.{in_order}
 use Rattle.wh_base.specs.Value.{kinds, row_kinds, value_kind}
 use Rattle.wh_base.proofs.InOrder.{Contains-from_in_order}
-use Rattle.wh_schema.specs.declared.spec.Relation.{Relation}
 use Rattle.wh_schema.specs.declared.spec.Spec.{Spec}
-use Rattle.wh_schema.specs.declared.spec.View.{View}
 use Rattle.wh_schema.specs.Heads.{relation_head, view_head, complement_head, heads_of, typed_names}
 use Rattle.wh_schema.specs.Legality.{WellFormed}
 use Rattle.wh_schema.specs.Rules.{kind_in, joined_attrs}
 use Rattle.wh_schema.specs.Warehouse.{Row, State, no_relation, no_view, numbers, columns_of, relation_at, view_at, view_table, sources_of, complement, stored}
 use Rattle.wh_store.specs.Image.{fit_attrs, fits_stored, fit_stored, stored_attrs, stored_count}
 use Rattle.wh_laws.proofs.Equality.{Name, is_in_decides}
-use Rattle.wh_laws.proofs.Lists.{Contains-nil, Contains-here, Contains-there, every_in, map_from, map_same, map_agree, map_map}
+use Rattle.wh_laws.proofs.Lists.{every_in, map_same, map_agree, map_map}
 use Rattle.wh_laws.proofs.Pieces.{numbers_from}
 use Rattle.wh_laws.proofs.Stored.{length_numbers_map, stored_view, stored_complement}
 use Rattle.wh_laws.proofs.Views.{ViewRow, view_from}

@@ -19,7 +19,7 @@ use Rattle.wh_schema.specs.Warehouse.{Row, State, columns_of, relation_at, view_
 use Rattle.wh_spec_text.specs.SpecTexts.{spec_of_text}
 use Rattle.wh_spec_text.specs.Textual.{IsTextualSpec}
 use Rattle.wh_store.specs.Image.{fit_attrs, fit_stored, first_over}
-use Rattle.std.specs.Prelude.{None, Some, Option}
+use Rattle.std.specs.Prelude.{None, Some}
 
 -- ---- states
 
