@@ -16,7 +16,7 @@ use Rattle.wh_laws.proofs.Views.{view_from}
 use Rattle.wh_fit.specs.Fit.{IsCarried, IsFittingState}
 use Rattle.wh_fit.proofs.KindLemmas.{fits_from, width_is}
 
-value_at-map : (f : Name → Value) (names : List Name) (p : ℕ) → p < length names → value_at (map f names) p ≡ f (get_or names p [])
+pub value_at-map : (f : Name → Value) (names : List Name) (p : ℕ) → p < length names → value_at (map f names) p ≡ f (get_or names p [])
 value_at-map f [] p l = absurd (omega arith)
 value_at-map f (n ∷ names) zero l = refl
 value_at-map f (n ∷ names) (suc p) l = value_at-map f names p (le_of_suc-le-suc l)

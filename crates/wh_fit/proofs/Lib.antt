@@ -5,6 +5,8 @@ pub mod Each
 pub mod JoinedKinds
 pub mod KindLemmas
 pub mod LineLemmas
+pub mod SourceValues
+pub mod Sources
 pub mod Loads
 pub mod SpelledTables
 pub mod StoredKinds

@@ -10,7 +10,7 @@ use Rattle.wh_fit.specs.Fit.{AreDumps, IsFittingState, IsLoad, IsSpelledState}
 use Rattle.wh_fit.proofs.Carried.{fitting_is_state}
 use Rattle.wh_fit.proofs.DumpLemmas.{dumps_fit}
 use Rattle.wh_fit.proofs.Each.{each_in}
-use Rattle.wh_fit.proofs.SpelledTables.{stored_spelled}
+use Rattle.wh_fit.proofs.SpelledTables.{rows_spelled, stored_spelled}
 use Rattle.wh_fit.proofs.StoredKinds.{stored_fits}
 use Rattle.wh_fit.proofs.TextSpecs.{found}
 
@@ -37,6 +37,7 @@ loads text spec s e d =
         textual = answers_are_textual text spec e;
         fits = stored_fits spec s f.well_formed f.kinded fits;
         ascending = each_in IsAscending (stored spec s) (λ rows h. stored_ascending spec s rows h);
-        spelled = stored_spelled spec s f.well_formed f.kinded fits spelled;
+        spelled = rows_spelled spec s f.well_formed f.kinded fits spelled;
       };
+      tables = stored_spelled spec s f.well_formed f.kinded fits spelled;
     }

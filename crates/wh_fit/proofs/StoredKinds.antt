@@ -92,9 +92,9 @@ kind_at at attrs e n k is =
     let a = kind_from n attrs k is in
     ap (λ m. value_kind (at m)) (sym a.2) ∙ map_agree (λ (b : Attr). value_kind (at b.name)) (λ (b : Attr). b.kind) attrs same a.0 a.1 ∙ a.3
 
-module _ (spec : Spec) (s : State) (wf : WellFormed spec) (kd : IsKinded spec) (fit : IsFittingState spec s) where
+module _ (spec : Spec) (kd : IsKinded spec) where
   -- a name of a member has one kind in all members
-  others_agree : (numbers : List ℕ) → ((i : ℕ) → Contains numbers i → i < length spec.relations) → (n : Name) (i : ℕ) (k : Kind) → Contains numbers i → kind_of n (relation_at spec i).attrs ≡ Some k
+  pub others_agree : (numbers : List ℕ) → ((i : ℕ) → Contains numbers i → i < length spec.relations) → (n : Name) (i : ℕ) (k : Kind) → Contains numbers i → kind_of n (relation_at spec i).attrs ≡ Some k
       → (j : ℕ) → Contains numbers j → (kind_of n (relation_at spec j).attrs ≡ None) ⊎ (kind_of n (relation_at spec j).attrs ≡ Some k)
   others_agree numbers below n i k h e j m = by (kind_of n (relation_at spec j).attrs) refl
     where
@@ -103,6 +103,7 @@ module _ (spec : Spec) (s : State) (wf : WellFormed spec) (kd : IsKinded spec) (
       by (Some b) is =
           inr (is ∙ ap Some (kd.one_kind (relation_at spec j) (relation_at spec i) (Contains-get_or spec.relations j no_relation (below j m)) (Contains-get_or spec.relations i no_relation (below i h)) n b k is e))
 
+module _ (spec : Spec) (s : State) (wf : WellFormed spec) (kd : IsKinded spec) (fit : IsFittingState spec s) where
   head_kind : (j : ℕ) → j < length spec.views → (w : Row) → (v : ViewRow spec s j w) → (n : Name) → Contains (view_at spec j).head n → value_kind (v.at n) ≡ kind_in (joined_attrs spec (view_at spec j).relations) n
   head_kind j l w v n h =
       let members = (view_at spec j).relations in
@@ -111,7 +112,7 @@ module _ (spec : Spec) (s : State) (wf : WellFormed spec) (kd : IsKinded spec) (
       let attrs = (relation_at spec i.0).attrs in
       let k = kind_known n attrs ((is_in_decides (names_of attrs) n).1 i.2) in
       let row = fits_from attrs (get_or s i.0 []) (fit.rows i.0 (vf.members i.0 i.1)) (map v.at (columns_of spec i.0)) (v.parts i.0 i.1) in
-      let joined : kind_of n (joined_attrs spec members) ≡ Some k.0 = joined_kind n spec members k.0 i.0 i.1 k.1 (others_agree members vf.members n i.0 k.0 i.1 k.1) in
+      let joined : kind_of n (joined_attrs spec members) ≡ Some k.0 = joined_kind n spec members k.0 i.0 i.1 k.1 (others_agree spec kd members vf.members n i.0 k.0 i.1 k.1) in
       kind_at v.at attrs row n k.0 k.1 ∙ sym (ap (λ o. unwrap_or o kind.Int) joined)
 
   pub view_row_fits : (j : ℕ) → j < length spec.views → (w : Row) → Contains (view_table spec s j).rows w → row_kinds w ≡ kinds (typed_names (joined_attrs spec (view_at spec j).relations) (view_at spec j).head)

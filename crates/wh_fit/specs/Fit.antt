@@ -6,7 +6,7 @@ use Rattle.wh_base.specs.declared.value.Value.{Value}
 use Rattle.wh_base.specs.Columns.{value_at, value_of}
 use Rattle.wh_base.specs.RowSet.{has, IsAscending}
 use Rattle.wh_codec.specs.declared.frame.Frame.{Frame}
-use Rattle.wh_codec.specs.Body.{IsSpelled, IsSpelledTable, IsSpelledValue, frame_bytes}
+use Rattle.wh_codec.specs.Body.{IsSpelled, IsSpelledRow, IsSpelledTable, IsSpelledValue, frame_bytes}
 use Rattle.wh_codec.specs.Reading.{frame_of}
 use Rattle.wh_csv.specs.declared.change.Line as csv
 use Rattle.wh_csv.specs.Change.{change_of}
@@ -74,11 +74,21 @@ StoredFits =
     (text : List ℕ) (spec : Spec) (s : State) → spec_of_text text ≡ Ok spec → IsFittingState spec s
     → IsState spec s × (fit_stored spec (stored spec s) ≡ true)
 
--- each stored table of fewer than 2^32 rows has a spelling, where the values of the state have one
+-- each stored row has a spelling, and each stored table of fewer than 2^32 rows, where the values of the state have one
 abbrev pub StoredIsSpelled : Type 0
 StoredIsSpelled =
     (text : List ℕ) (spec : Spec) (s : State) → spec_of_text text ≡ Ok spec → IsFittingState spec s → IsSpelledState spec s
-    → AllByRecursion (λ rows. length rows < 2 ^ 32 → IsSpelledTable rows) (stored spec s)
+    → AllByRecursion (AllByRecursion IsSpelledRow) (stored spec s) × AllByRecursion (λ rows. length rows < 2 ^ 32 → IsSpelledTable rows) (stored spec s)
+
+-- rows in order, each of them in a table that has a spelling, are such a table
+abbrev pub PartsAreSpelled : Type 0
+PartsAreSpelled = (table part : List Row) → IsSpelledTable table → IsAscending part → ((x : Row) → has part x ≡ true → has table x ≡ true) → IsSpelledTable part
+
+-- a state fits where what is stored of it fits, and its values have a spelling where those of what is stored have one
+abbrev pub SourcesFit : Type 0
+SourcesFit =
+    (text : List ℕ) (spec : Spec) (s : State) → spec_of_text text ≡ Ok spec → IsState spec s
+    → (fit_stored spec (stored spec s) ≡ true → IsFittingState spec s) × (AllByRecursion AreSpelledRows (stored spec s) → IsSpelledState spec s)
 
 -- tables of which none is over the limit of rows are of fewer than 2^32 rows
 abbrev pub UnderIsCounted : Type 0
@@ -100,7 +110,7 @@ pub record IsLoadable (spec : Spec) (tables : List (List Row)) : Type 0 where
   pub textual : IsTextualSpec spec
   pub fits : fit_stored spec tables ≡ true
   pub ascending : AllByRecursion IsAscending tables
-  pub spelled : AllByRecursion (λ rows. length rows < 2 ^ 32 → IsSpelledTable rows) tables
+  pub spelled : AllByRecursion (AllByRecursion IsSpelledRow) tables
 
 -- The specification of a text and a state by dumps: the state fits, and what is stored of it may be loaded.
 pub record IsLoad (spec : Spec) (s : State) : Type 0 where
@@ -109,6 +119,7 @@ pub record IsLoad (spec : Spec) (s : State) : Type 0 where
   pub fits : IsFittingState spec s
   pub spelled : IsSpelledState spec s
   pub loadable : IsLoadable spec (stored spec s)
+  pub tables : AllByRecursion (λ rows. length rows < 2 ^ 32 → IsSpelledTable rows) (stored spec s)
 
 abbrev pub DumpsAreLoaded : Type 0
 DumpsAreLoaded = (text : List ℕ) (spec : Spec) (s : State) → spec_of_text text ≡ Ok spec → AreDumps spec s → IsLoad spec s

@@ -2,7 +2,7 @@
 //! the clause of a function that does nothing.
 #![tactic(auto)]
 
-ghost use Rattle.wh_fit.specs.Fit.{FittingIsState, ValuesAreCarried, ComplementsAreRows, TextsAreWellFormed, StoredFits, StoredIsSpelled, UnderIsCounted, DumpsFit, DumpsAreLoaded, ChangesFit, LinesKeepFit, BodiesAreRead};
+ghost use Rattle.wh_fit.specs.Fit.{FittingIsState, ValuesAreCarried, ComplementsAreRows, TextsAreWellFormed, StoredFits, StoredIsSpelled, PartsAreSpelled, SourcesFit, UnderIsCounted, DumpsFit, DumpsAreLoaded, ChangesFit, LinesKeepFit, BodiesAreRead};
 
 /// A state whose rows have the kinds of their attributes has rows of the right widths.
 pub fn fitting_is_state()
@@ -32,6 +32,16 @@ pub fn stored_fits()
 /// What is stored of a state whose values have a spelling has a spelling.
 pub fn stored_is_spelled()
     ensures { StoredIsSpelled }
+{}
+
+/// Rows in order out of a table that has a spelling have one.
+pub fn parts_are_spelled()
+    ensures { PartsAreSpelled }
+{}
+
+/// A state has the kinds and the spelling that what is stored of it has.
+pub fn sources_fit()
+    ensures { SourcesFit }
 {}
 
 /// Tables of which none is over the limit have few enough rows for a spelling.
