@@ -1,5 +1,5 @@
 mod BreakLemmas
 pub mod DistinctLemmas
-mod PieceLemmas
+mod EvaluationLemmas
 mod RepeatLemmas
 mod SourceLemmas

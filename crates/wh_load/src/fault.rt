@@ -5,6 +5,8 @@ use wh_schema::Broken;
 #[derive(Debug, Drop)]
 pub enum LoadFault {
     Broken(Broken),
+    /// The first stored table, numbered from 0, with more than 4,000,000 rows.
+    RowLimit { table: u32 },
     NoMemory,
 }
 

@@ -2,15 +2,13 @@
 #![tactic(auto)]
 
 mod broken;
+mod complements;
 mod fault;
+mod limit;
 mod load;
-mod pieces;
 mod repeats;
 mod source;
 mod views;
 
 pub use fault::LoadFault;
 pub use load::load_rows;
-
-#[cfg(test)]
-mod tests;

@@ -1,77 +1,79 @@
-ghost use Rattle.std.specs.Prelude.{◌≡◌, ◌<◌, map, fold, length, IfOk};
-ghost use Rattle.wh_base.specs.Tables.{join, join_all};
+// The relations of a state under their numbers, and its views.
+ghost use Rattle.std.specs.Prelude.{◌≡◌, ◌<◌, ◌≤◌, length, IfOk};
+ghost use Rattle.wh_base.specs.RowSet.{in_order};
 ghost use Rattle.wh_covers.specs.Covers.{IsNumbered};
-ghost use Rattle.wh_eval.specs.Relation.{table_of as table};
-ghost use Rattle.wh_load.specs.Sources.{AreViews};
-ghost use Rattle.wh_schema.specs.Warehouse.{table_of, view_table};
+ghost use Rattle.wh_load.specs.Load.{HasDistinctRows};
+ghost use Rattle.wh_load.specs.Sources.{relation_lists, view_lists};
+ghost use Rattle.wh_plan.specs.Plan.{IsPlan};
+ghost use Rattle.wh_schema.specs.Heads.{heads_of};
+ghost use Rattle.wh_schema.specs.Legality.{WellFormed};
+ghost use Rattle.wh_schema.specs.Warehouse.{view_table};
 
-use crate::source::{columns_of, copy_rows, rows_of};
+use crate::source::copy_rows;
 use std::alloc::Global;
-use wh_base::{NoMemory, State};
-use wh_covers::view_at;
-use wh_eval::Relation;
+use wh_base::{Heads, NoMemory, Rows, State, StoredRows, sort_rows};
+use wh_eval::{Lists, eval};
+use wh_plan::Plan;
 use wh_schema::Spec;
+use wh_steps::{Ledger, Steps};
 
-fn relation_copy(alloc: Global, spec: &Spec, s: &State, relation: u32) -> Result<Relation, NoMemory>
-    ensures { IfOk result (λ copy. table copy ≡ table_of spec.now s.now relation) }
-{
-    Ok(Relation {
-        columns: columns_of(alloc, spec, relation)?,
-        rows: copy_rows(alloc, s, relation)?,
-    })
-}
-
-fn join_onto(
-    alloc: Global,
-    spec: &Spec,
-    s: &State,
-    first: Relation,
-    others: &[u32],
-) -> Result<Relation, NoMemory>
-    ensures { IfOk result (λ all. table all ≡ fold join (table first) (map (table_of spec.now s.now) others.now)) }
-{
-    let mut joined = first;
-    for other in others {
-        let columns = columns_of(alloc, spec, *other)?;
-        joined = joined.join_rows(alloc, columns.as_slice(), rows_of(s, *other))?;
-    }
-    Ok(joined)
-}
-
-/// The join of relations of the state.
-fn joined_relations(
-    alloc: Global,
-    spec: &Spec,
-    s: &State,
-    relations: &[u32],
-) -> Result<Relation, NoMemory>
-    ensures { IfOk result (λ all. table all ≡ join_all (map (table_of spec.now s.now) relations.now)) }
-{
-    let Some((first, others)) = relations.split_first() else {
-        return Relation::unit(alloc);
-    };
-    let first = relation_copy(alloc, spec, s, *first)?;
-    join_onto(alloc, spec, s, first, others)
-}
-
-/// A view of the state.
-fn view_relation(alloc: Global, spec: &Spec, s: &State, number: u32) -> Result<Relation, NoMemory>
-    requires { number < length spec.now.views }
-    ensures { IfOk result (λ view. table view ≡ view_table spec.now s.now number) }
-{
-    let view = view_at(spec, number);
-    let joined = joined_relations(alloc, spec, s, view.relations.as_slice())?;
-    joined.select(&view.cond).project(alloc, &view.head)
-}
-
-/// Each view of the state.
-pub fn view_relations(alloc: Global, spec: &Spec, s: &State) -> Result<Vec<Relation>, NoMemory>
+/// Copies of the rows of each relation.
+pub fn relation_lists(alloc: Global, spec: &Spec, s: &State) -> Result<State, NoMemory>
     requires { IsNumbered spec.now }
-    ensures { IfOk result (λ views. AreViews spec.now s.now views.items) }
+    ensures { IfOk result (λ lists. lists ≡ relation_lists spec.now s.now) }
 {
-    let mut views = Vec::new(alloc);
-    for number in 0..spec.views.len() as u32 {
-        views.push(view_relation(alloc, spec, s, number)?)?;
+    let mut lists = State::new(alloc);
+    for relation in 0..spec.relations.len() as u32 {
+        lists.push(copy_rows(alloc, s, relation)?)?;
     }
-    Ok(views)
+    Ok(lists)
+}
+
+/// The rows of a view, in row order.
+fn view_rows<L: Ledger>(
+    alloc: Global,
+    plan: &Plan,
+    heads: &Heads,
+    s: &State,
+    view: u32,
+    steps: &mut Steps<L>,
+) -> Result<Rows, NoMemory>
+    requires plan { IsPlan plan.now }
+    requires rules { WellFormed plan.now.spec }
+    requires heads { heads.now ≡ heads_of plan.now.spec }
+    requires whole { length s.now ≡ length plan.now.spec.relations }
+    requires distinct { HasDistinctRows s.now }
+    requires view { view < length plan.now.spec.views }
+    ensures rows { IfOk result (λ rows. rows ≡ in_order (view_table plan.now.spec s.now view).rows) }
+    ensures probes { steps.old.probes ≤ steps.new.probes }
+    ensures scans { steps.old.scans ≤ steps.new.scans }
+{
+    let lists = Lists::new(heads, s);
+    let rows = eval(alloc, plan.view_of(view), &lists, steps)?;
+    sort_rows(rows)
+}
+
+/// The rows of each view, in row order.
+pub fn view_lists<L: Ledger>(
+    alloc: Global,
+    plan: &Plan,
+    heads: &Heads,
+    s: &State,
+    steps: &mut Steps<L>,
+) -> Result<StoredRows, NoMemory>
+    requires numbered { IsNumbered plan.now.spec }
+    requires plan { IsPlan plan.now }
+    requires rules { WellFormed plan.now.spec }
+    requires heads { heads.now ≡ heads_of plan.now.spec }
+    requires whole { length s.now ≡ length plan.now.spec.relations }
+    requires distinct { HasDistinctRows s.now }
+    ensures tables { IfOk result (λ tables. tables ≡ view_lists plan.now.spec s.now) }
+    ensures probes { steps.old.probes ≤ steps.new.probes }
+    ensures scans { steps.old.scans ≤ steps.new.scans }
+{
+    let mut tables = StoredRows::new(alloc);
+    for view in 0..plan.spec.views.len() as u32 {
+        tables.push(view_rows(alloc, plan, heads, s, view, steps)?)?;
+    }
+    Ok(tables)
 }

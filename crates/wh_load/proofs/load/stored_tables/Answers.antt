@@ -1,15 +1,26 @@
-use Rattle.std.proofs.Common.{◌∙◌, sym, ap, map, length, ◌++◌}
+use Rattle.std.proofs.Common.{◌++◌, [], length, replicate, sym, ap, subst, ◌∙◌}
 use Rattle.std.proofs.lemmas.Result.{IfOk-weaker}
-use Rattle.std.proofs.lemmas.Simd.{map-map}
-use Rattle.wh_base.specs.RowSet.{in_order}
-use Rattle.wh_base.specs.Tables.{Table}
-use Rattle.wh_eval.specs.Relation.{table_of as table}
-use Rattle.wh_schema.specs.Warehouse.{numbers, view_table}
+use Rattle.wh_load.specs.Load.{HasDistinctRows}
+use Rattle.wh_load.specs.Sources.{view_lists}
+use Rattle.wh_load.proofs.EvaluationLemmas.{relations_count, relations_distinct, padded_views}
 use Rattle.wh_load.proofs.load.stored_tables.Goals as goal
 
-pub returns : goal.returns
-returns c =
+pub view_lists-requires-clause-whole : goal.view_lists-requires-clause-whole
+view_lists-requires-clause-whole g c = ap length c.in_ok-relations.ensures ∙ relations_count c.args.plan.now.spec c.args.s.now
+
+pub view_lists-requires-clause-distinct : goal.view_lists-requires-clause-distinct
+view_lists-requires-clause-distinct g c = subst HasDistinctRows (sym c.in_ok-relations.ensures) (relations_distinct c.args.plan.now.spec c.args.s.now c.requires.distinct)
+
+pub complement_lists-requires-clause-sources : goal.complement_lists-requires-clause-sources
+complement_lists-requires-clause-sources g c =
     let spec = c.args.plan.now.spec in
-    let sorted = λ (t : Table). in_order t.rows in
-    let views = c.in_ok-sorted_views.ensures ∙ sym (map-map sorted table c.in_ok-views.views.items) ∙ ap (map sorted) c.in_ok-views.ensures ∙ map-map sorted (view_table spec c.args.s.now) (numbers (length spec.views)) in
-    IfOk-weaker c.append_tables.result _ _ (λ tables h. h ∙ (λ i. views i ++ c.in_ok-rests.ensures i)) c.append_tables.ensures
+    let relations = c.in_ok-relations.ensures in
+    let count = ap length relations ∙ relations_count spec c.args.s.now in
+    let views = c.in_ok-views.ensures.tables ∙ ap (view_lists spec) relations ∙ padded_views spec c.args.s.now c.requires.rules in
+    c.in_ok-sources.ensures ∙ (λ i. (relations i ++ views i) ++ replicate (count i) [])
+
+pub returns-clause-tables : goal.returns-clause-tables
+returns-clause-tables g c =
+    let spec = c.args.plan.now.spec in
+    let views = c.in_ok-views.ensures.tables ∙ ap (view_lists spec) c.in_ok-relations.ensures ∙ padded_views spec c.args.s.now c.requires.rules in
+    IfOk-weaker c.append_tables.result _ _ (λ tables h. h ∙ (λ i. views i ++ c.in_ok-rests.ensures.tables i)) c.append_tables.ensures
