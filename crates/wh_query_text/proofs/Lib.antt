@@ -3,3 +3,4 @@ pub mod QueryLemmas
 pub mod QueryTextLemmas
 pub mod Unplaced
 pub mod QueryDataLemmas
+pub mod Fits
