@@ -4,3 +4,6 @@ pub mod QueryTextLemmas
 pub mod Unplaced
 pub mod QueryDataLemmas
 pub mod Fits
+pub mod ShownLemmas
+pub mod PrefixTrip
+pub mod QueryTextTrip

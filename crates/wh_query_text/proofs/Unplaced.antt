@@ -1,5 +1,5 @@
 -- The readers of a query without places: they give the expressions of what the readers with places give.
-use Rattle.std.proofs.Common.{◌≡◌, ◌<◌, ◌≤◌, ℕ, zero, suc, Bool, true, false, ◌||◌, cond, List, length, Option, Some, None, Ok, Err, refl, sym, ap, ◌∙◌, arith}
+use Rattle.std.proofs.Common.{◌≡◌, ◌<◌, ◌≤◌, ◌-◌, ℕ, zero, suc, Bool, true, false, ◌||◌, cond, List, length, Option, Some, None, Ok, Err, refl, sym, ap, ◌∙◌, arith}
 use Rattle.wh_expr.specs.declared.expr.Expr.{Expr}
 use Rattle.wh_expr.specs.declared.expr.Expr.TheVariants.{Base}
 use Rattle.wh_grammar.specs.declared.symbol.Symbol.{Symbol}
@@ -143,6 +143,13 @@ module _ (number : List ℕ → ℕ) where
 
   unfoldable pub query : ℕ → Part Expr
   query d = chain sum_of (term d)
+
+  inner_suc : (d : ℕ) → inner (suc d) ≡ ((factor d).read, (query d).read)
+  unfolding inner factor term query
+  inner_suc d = refl
+
+  pub inner_some : (d : ℕ) → 0 < d → inner d ≡ ((factor (d - 1)).read, (query (d - 1)).read)
+  inner_some d lt = let same-depth : d ≡ suc (d - 1) = omega arith in ap inner same-depth ∙ inner_suc (d - 1)
 
   -- ---- they give the expressions of what the readers with places give
 
