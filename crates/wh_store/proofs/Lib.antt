@@ -1,3 +1,4 @@
 mod CommitLemmas
 pub mod FirstByte
 mod TableSteps
+pub mod TextualLemmas
