@@ -19,12 +19,13 @@ no_table = record { rows = []; width = 0; indexes = []; spare = 0 }
 abbrev pub table_at : List IndexedRows → ℕ → IndexedRows
 table_at tables k = get_or tables k no_table
 
--- The plan is that of an accepted specification, and there is one table for each that is stored, with its width.
+-- The plan is that of an accepted specification, and there is one table for each that is stored, with its width and its indexed sets.
 pub record IsInForm (w : Warehouse) : Type 0 where
   pub textual : IsTextualSpec w.plan.spec
   pub plan : IsPlan w.plan
   pub count : length w.tables ≡ stored_count w.plan.spec
   pub widths : (k : ℕ) → k < stored_count w.plan.spec → (table_at w.tables k).width ≡ length (stored_attrs w.plan.spec k)
+  pub indexes : (k : ℕ) → k < stored_count w.plan.spec → (table_at w.tables k).indexes ≡ get_or w.plan.indexes k []
 
 -- The warehouse has the specification, the rows of the tables and the number of changes of an image.
 pub record IsWarehouseOf (i : Image) (w : Warehouse) : Type 0 where
