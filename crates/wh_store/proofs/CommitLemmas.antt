@@ -200,6 +200,7 @@ module _ (deltas : List Delta) (w : Warehouse) (new : List IndexedRows) (changed
     plan = form.plan;
     count = changed.count ∙ form.count;
     widths = λ k below. changed.widths k ∙ form.widths k below;
+    indexes = λ k below. changed.indexes k ∙ form.indexes k below;
   }
 
   warehouse_after : (i : Image) → IsWarehouseOf i w → are_stored_deltas i.spec i.tables deltas ≡ true → IsWarehouseOf (image_with i deltas) (record { plan = w.plan; tables = new; seq = w.seq + 1 })
