@@ -1,0 +1,10 @@
+pub mod Assignments
+pub mod BelowLemmas
+pub mod Beside
+pub mod CoverLemmas
+pub mod FoundLemmas
+pub mod PieceLemmas
+pub mod Places
+pub mod PlanFacts
+pub mod Tests
+pub mod WalkLemmas
