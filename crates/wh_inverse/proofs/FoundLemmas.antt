@@ -43,7 +43,7 @@ same-table t u is = record { columns = ap (λ (v : Table). v.columns) is; rows =
 pub wider : (names attrs cols : List (List ℕ)) (vals : List Value) → all_in names attrs ≡ true → AreAsked attrs cols vals → AreAsked names cols vals
 wider names attrs cols vals h a = record { within = all_in-trans names attrs cols h a.within; some = a.some; distinct = a.distinct; one_each = a.one_each }
 
-length-cut : (columns names : List (List ℕ)) (row : List Value) → length (cut columns names row) ≡ length names
+pub length-cut : (columns names : List (List ℕ)) (row : List Value) → length (cut columns names row) ≡ length names
 length-cut columns names row = length-map (map _ names) _ ∙ length-map names _
 
 -- the first piece is asked at the columns that it has
@@ -77,6 +77,10 @@ module _ (spec : Spec) (r : ℕ) (c : List ℕ) (h : Contains (relation_covers s
 
   pub numbered-at : (k i : ℕ) → k < length c → slice_get c k ≡ Some i → Contains (pieces spec r) (piece_numbered (pieces spec r) i)
   numbered-at k i l e = let P : ℕ → Type 0 = λ n. Contains (pieces spec r) (piece_numbered (pieces spec r) n) in subst P (get_or_from_slice_get c k i 0 e) (number-in k l)
+
+-- the number at a place does not go by what stands past the end
+pub number-same : (c : List ℕ) (k d : ℕ) → k < length c → get_or c k 0 ≡ get_or c k d
+number-same c k d l = sym (get_or_from_slice_get c k (get_or c k 0) d (slice_get-get_or c k 0 l))
 
 -- a piece that is read by its number
 pub piece-is : (ps' ps : List Piece) (i : ℕ) (p : Piece) → p ≡ piece_numbered ps' i → ps' ≡ ps → p ≡ piece_numbered ps i

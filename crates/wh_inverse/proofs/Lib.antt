@@ -2,9 +2,11 @@ pub mod Assignments
 pub mod BelowLemmas
 pub mod Beside
 pub mod CoverLemmas
+pub mod FilledLemmas
 pub mod FoundLemmas
 pub mod PieceLemmas
 pub mod Places
 pub mod PlanFacts
 pub mod Tests
+pub mod UsesLemmas
 pub mod WalkLemmas

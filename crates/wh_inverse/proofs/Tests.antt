@@ -1,5 +1,5 @@
 -- Tests on names and truth values.
-use Rattle.std.proofs.Common.{◌≡◌, ℕ, suc, zero, ◌<◌, Bool, true, false, cond, ◌&&◌, ◌||◌, List, [], ◌∷◌, map, filter, length, nat_lt, refl, sym, ap, ◌∙◌, arith, true≢false, inl, inr, ◌⊎◌}
+use Rattle.std.proofs.Common.{◌≡◌, ℕ, suc, zero, ◌<◌, ◌≤◌, Bool, true, false, cond, ◌&&◌, ◌||◌, List, [], ◌∷◌, map, filter, length, nat_lt, refl, sym, ap, ◌∙◌, arith, true≢false, inl, inr, ◌⊎◌}
 use Rattle.std.specs.Cmp.{first_so, second_so}
 use Rattle.std.specs.Cmp.Lexicographic.{bytes_decides}
 use Rattle.std.specs.List.{list_any, list_all}
@@ -95,3 +95,9 @@ filter-map f p q e (x ∷ xs) = ap (λ b. cond b (f x ∷ filter q (map f xs)) (
     by : (b : Bool) → filter q (map f xs) ≡ map f (filter p xs) → cond b (f x ∷ filter q (map f xs)) (filter q (map f xs)) ≡ map f (cond b (x ∷ filter p xs) (filter p xs))
     by true h = ap (λ r. f x ∷ r) h
     by false h = h
+
+pub ge-from : (m n : ℕ) → nat_lt m n ≡ false → n ≤ m
+ge-from m n h = grind (arith, nat_tests)
+
+pub ge-test : (m n : ℕ) → n ≤ m → nat_lt m n ≡ false
+ge-test m n h = grind (arith, nat_tests)
