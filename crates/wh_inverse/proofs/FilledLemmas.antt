@@ -28,11 +28,9 @@ use Rattle.wh_inverse.proofs.Tests.{lt-from, lt-test, ge-from, ge-test}
 use Rattle.wh_inverse.proofs.BelowLemmas.{relation-at, view-at, complement-at, stored-at, from-within}
 use Rattle.wh_inverse.proofs.UsesLemmas.{uses-inverse}
 
-pub none : (row : List Value) → has [] row ≡ false
-none row = refl
-
 pub none-is-set : IsSetOf [] []
-none-is-set = record { distinct = refl; same = λ r. refl }
+unfolding IsDistinct
+none-is-set = record { distinct = tt; same = λ r. refl }
 
 -- ---- the first tables
 
@@ -80,6 +78,10 @@ first-relation spec rows i l = ap (λ b. cond b [] (rows i)) (lt-test i (length 
 
 first-other : (spec : Spec) (rows : ℕ → List Row) (i : ℕ) → length spec.relations ≤ i → first_rows spec rows i ≡ rows i
 first-other spec rows i l = ap (λ b. cond b [] (rows i)) (ge-test i (length spec.relations) l)
+
+-- no row stands for a relation
+pub first-set : (spec : Spec) (rows : ℕ → List Row) (i : ℕ) → i < length spec.relations → (made : List Row) → made ≡ [] → IsSetOf made (first_rows spec rows i)
+first-set spec rows i l made e = subst (λ xs. IsSetOf xs (first_rows spec rows i)) (sym e) (subst (IsSetOf []) (sym (first-relation spec rows i l)) none-is-set)
 
 pub first-filled : (spec : Spec) (rows : ℕ → List Row) (k : ℕ) (tables : List (List Row)) → k ≡ table_count spec → AreFirst spec rows k tables → AreFilled spec rows (replicate (length spec.relations) []) tables
 first-filled spec rows k tables e f = record {

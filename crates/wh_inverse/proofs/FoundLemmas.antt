@@ -23,10 +23,11 @@ use Rattle.wh_schema.specs.declared.piece.PieceSource.TheVariants as source
 use Rattle.wh_schema.specs.declared.spec.Inclusion.{Inclusion}
 use Rattle.wh_schema.specs.declared.spec.Spec.{Spec}
 use Rattle.wh_schema.specs.Reconstruction.{order, reconstructed}
-use Rattle.wh_schema.specs.Warehouse.{Row, Sources, columns_of, view_at, inclusion_at, pieces, pieces_at, piece_base, piece_table, joined_pieces, covered}
+use Rattle.wh_schema.specs.Warehouse.{Row, Sources, columns_of, key_of, view_at, inclusion_at, pieces, pieces_at, piece_base, piece_table, joined_pieces, covered}
 use Rattle.wh_inverse.specs.Asked.{AreAsked, key_columns, piece_numbered, has_one, cover_table}
 use Rattle.wh_inverse.specs.Inverse.{IsBelow, stored_below, back}
-use Rattle.wh_inverse.proofs.Tests.{all_in-trans}
+use Rattle.wh_inverse.proofs.Assignments.{in-filter}
+use Rattle.wh_inverse.proofs.Tests.{all_in-trans, all_in-from}
 use Rattle.wh_inverse.proofs.Beside.{distinct-filter}
 use Rattle.wh_inverse.proofs.WalkLemmas.{found-project, found-beside}
 use Rattle.wh_inverse.proofs.CoverLemmas.{shared-in, some-shared, Walked, Walked-end, Walked-key}
@@ -205,3 +206,8 @@ module _ (spec : Spec) (heads : List Head) (held : ℕ → Bool) (over : ∥ IsB
   has-key src c h cols vals at k acc within w key e =
       ap (all_in acc.columns) e
       ∙ Walked-key (Of spec src r) (Of-fits spec src r) c at cols vals k acc w (key_columns spec r) (λ x s. piece-has-key spec heads held over r l (piece_numbered (pieces spec r) x) (numbered-at spec r c h at x within s))
+
+  pub asked-by-key : (asked : List (List ℕ)) → asked ≡ key_columns spec r → (vals : List Value) → length vals ≡ length asked → AreAsked (columns_of spec r) asked vals
+  asked-by-key asked e vals one =
+      let within : all_in (columns_of spec r) (key_columns spec r) ≡ true = all_in-from (columns_of spec r) (key_columns spec r) (λ n k. (in-filter (is_in (key_of spec r)) (columns_of spec r) n k).1) in
+      subst (λ names. AreAsked (columns_of spec r) names vals) (sym e) (key-asked spec heads held over r l (columns_of spec r) vals within (one ∙ ap length e))

@@ -4,6 +4,7 @@ pub mod Beside
 pub mod CoverLemmas
 pub mod FilledLemmas
 pub mod FoundLemmas
+pub mod GivenLemmas
 pub mod PieceLemmas
 pub mod Places
 pub mod PlanFacts

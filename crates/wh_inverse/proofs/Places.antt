@@ -57,6 +57,7 @@ fold-append f b (x ∷ xs) ys = fold-append f (f b x) xs ys
 -- the relations taken so far: each is made from those before it
 record Settled (spec : Spec) (tables : List (List Row)) (taken : List ℕ) (b : State) : Type 0 where
   width : length b ≡ length spec.relations
+  within : (r : ℕ) → Contains taken r → r < length spec.relations
   sources : (c : Inclusion) → Contains spec.inclusions c → Contains taken c.to → Contains taken c.from × (place taken c.from < place taken c.to)
   rows : (r : ℕ) → Contains taken r → SameRows (get_or b r []) (reconstructed_rows spec tables b r)
 
@@ -76,6 +77,10 @@ module _ (spec : Spec) (tables : List (List Row)) where
       let made = reconstructed_rows spec tables b q in
       record {
         width = length-set b q made ∙ s.width;
+        within = λ r k. elim (Contains-append_cases taken (q ∷ []) r k) [
+          | inl i ↦ s.within r i
+          | inr i ↦ elim (Contains-cases q r [] i) [ inl e ↦ let P : ℕ → Type 0 = λ n. n < length spec.relations in subst P e l | inr z ↦ absurd (Contains-nil r z) ]
+        ];
         sources = λ c k h. elim (Contains-append_cases taken (q ∷ []) c.to h) [
           | inl i ↦
               let old = s.sources c k i in
@@ -130,6 +135,7 @@ module _ (spec : Spec) (tables : List (List Row)) where
       iterate_keeps (λ t. Settled spec tables t (so_far t)) (take_next (is_ready spec) (numbers (length spec.relations))) settled_kept (length spec.relations) []
       (record {
         width = length-replicate (length spec.relations) [];
+        within = λ r k. absurd (Contains-nil r k);
         sources = λ c k h. absurd (Contains-nil c.to h);
         rows = λ r k. absurd (Contains-nil r k);
       })
@@ -141,3 +147,7 @@ module _ (spec : Spec) (tables : List (List Row)) where
 -- an inclusion leads from a relation before
 pub earlier : (spec : Spec) → WellFormed spec → (c : Inclusion) → Contains spec.inclusions c → place (order spec) c.from < place (order spec) c.to
 earlier spec wf c k = ((all_settled spec []).sources c k (order_whole spec wf c.to (wf.inclusions c k).right)).1
+
+-- the order has relations alone
+pub order-within : (spec : Spec) (r : ℕ) → Contains (order spec) r → r < length spec.relations
+order-within spec r k = (all_settled spec []).within r k

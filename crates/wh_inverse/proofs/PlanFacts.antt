@@ -1,9 +1,11 @@
 -- What a plan that is that of its specification has, where this is only known to hold.
 use Rattle.std.proofs.Common.{◌≡◌, ℕ, ◌<◌, List, map, length, get_or, refl, sym, ap, ◌∙◌, arith, zero-add, ◌⊎◌, inl, inr}
-use Rattle.std.proofs.Math.Logic.{∥∥₁_elim}
+use Rattle.std.proofs.Math.Logic.{∥∥₁_elim, ∥∥₁_map}
 use Rattle.std.specs.Coded.{Coded, Coded-set, code_by, coded×, coded⊎, coded_list, coded_ℕ, le_prop}
 use Rattle.std.proofs.lemmas.List.FromFn.{get_or-map-range_with_len, length-map-range_with_len}
 use Rattle.wh_plan.specs.declared.plan.Plan.{Plan}
+use Rattle.wh_expr.specs.declared.expr.Expr.{Expr}
+use Rattle.wh_plan.specs.Expressions.{inverse_expr}
 use Rattle.wh_plan.specs.Plan.{IsPlan, relation_covers}
 use Rattle.wh_schema.specs.declared.piece.Piece.{Piece}
 use Rattle.wh_schema.specs.declared.piece.PieceSource.{PieceSource}
@@ -54,3 +56,12 @@ module _ (plan : Plan) (planned : ∥ IsPlan plan ∥₁) where
 
   pub order-is : plan.order ≡ order plan.spec
   order-is = ∥∥₁_elim planned (Coded-set (coded_list coded_ℕ) _ _) (λ p. ap (λ (q : Plan). q.order) p)
+
+  pub exprs-within : (r : ℕ) → r < length plan.spec.relations → (list : List Expr) → list ≡ plan.inverse_exprs → r < length list
+  exprs-within r l list e = ∥∥₁_elim planned le_prop (λ p.
+      let same : length plan.inverse_exprs ≡ length (map (inverse_expr plan.spec) (numbers (length plan.spec.relations))) = ap (λ (q : Plan). length q.inverse_exprs) p in
+      omega (arith, l, ap length e, same, length-map-range_with_len (inverse_expr plan.spec) 0 (length plan.spec.relations)))
+
+  pub exprs-are : (r : ℕ) → r < length plan.spec.relations → (list : List Expr) → list ≡ plan.inverse_exprs → (item : Expr) → item ≡ get_or list r item → ∥ item ≡ inverse_expr plan.spec r ∥₁
+  exprs-are r l list e item is = ∥∥₁_map planned (λ p.
+      is ∙ ap (λ all. get_or all r item) (e ∙ ap (λ (q : Plan). q.inverse_exprs) p) ∙ get_or-map-range_with_len (inverse_expr plan.spec) 0 (length plan.spec.relations) r r item l (zero-add r))

@@ -167,7 +167,7 @@ module _ (t : Table) (columns : List (List ℕ)) (values : List Value) where
 
 -- ---- partners by key
 
-filter_twice : {X : Type 0} (p q : X → Bool) → ((x : X) → p x ≡ true → q x ≡ true) → (xs : List X) → filter p (filter q xs) ≡ filter p xs
+pub filter_twice : {X : Type 0} (p q : X → Bool) → ((x : X) → p x ≡ true → q x ≡ true) → (xs : List X) → filter p (filter q xs) ≡ filter p xs
 filter_twice p q h [] = refl
 filter_twice p q h (x ∷ xs) = by (q x) refl (p x) refl (filter_twice p q h xs)
   where

@@ -1,12 +1,18 @@
 ghost use Rattle.std.specs.Prelude.{◌≡◌, ℕ, ◌≤◌, ◌<◌, ◌+◌, length, IsTrue};
 ghost use Rattle.wh_covers.specs.Covers.{IsNumbered};
-ghost use Rattle.wh_inverse.specs.Inverse.{IsBelow, have_keys};
+ghost use Rattle.wh_inverse.specs.Inverse.{IsBelow, have_keys, is_source, inverse_rows};
 ghost use Rattle.wh_plan.specs.Plan.{IsPlan};
 ghost use Rattle.wh_schema.specs.Heads.{heads_of as heads_of_spec};
 ghost use Rattle.wh_schema.specs.Legality.{WellFormed};
 
+use crate::planned::is_relation;
+use crate::relations::relation_rows;
+use crate::walk::relation_where;
+use std::alloc::Global;
+use wh_base::{Heads, Names, NoMemory, Row, Rows};
 use wh_eval::Base;
 use wh_plan::Plan;
+use wh_steps::{Ledger, Steps};
 
 /// The relations and views of a specification, computed from the stored tables of a base below.
 pub struct Inverse<'a, B: Base> {
@@ -35,5 +41,45 @@ impl<'a, B: Base> Inverse<'a, B> {
         ensures below { result.below.now ≡ below.entry.now }
     {
         Inverse { plan, below }
+    }
+}
+
+impl<'a, B: Base> Base for Inverse<'a, B> {
+    ghost heads_of = { λ s. B.heads_of s.below.now };
+
+    ghost has_number = { λ s n. is_source s.plan.now.spec n };
+
+    ghost rows_at = { λ s n. inverse_rows s.plan.now.spec (B.rows_at s.below.now) n };
+
+    fn heads(&self) -> &Heads {
+        self.below.heads()
+    }
+
+    fn rows<L: Ledger>(
+        &self,
+        alloc: Global,
+        n: u32,
+        steps: &mut Steps<L>,
+    ) -> Result<Rows, NoMemory> {
+        if is_relation(&self.plan.spec, n) {
+            relation_rows(alloc, self, n, steps)
+        } else {
+            self.below.rows(alloc, n, steps)
+        }
+    }
+
+    fn rows_where<L: Ledger>(
+        &self,
+        alloc: Global,
+        n: u32,
+        cols: &Names,
+        vals: &Row,
+        steps: &mut Steps<L>,
+    ) -> Result<Rows, NoMemory> {
+        if is_relation(&self.plan.spec, n) {
+            relation_where(alloc, self, n, cols, vals, steps)
+        } else {
+            self.below.rows_where(alloc, n, cols, vals, steps)
+        }
     }
 }

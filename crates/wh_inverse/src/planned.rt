@@ -1,7 +1,7 @@
 //! What the plan of an inverse has for a relation.
-ghost use Rattle.std.specs.Prelude.{◌≡◌, ◌≤◌, ◌<◌, ◌+◌, length};
+ghost use Rattle.std.specs.Prelude.{◌≡◌, ◌≤◌, ◌<◌, ◌+◌, nat_lt, length};
 ghost use Rattle.wh_covers.specs.Covers.{IsNumbered};
-ghost use Rattle.wh_plan.specs.Expressions.{complement_number};
+ghost use Rattle.wh_plan.specs.Expressions.{complement_number, inverse_expr};
 ghost use Rattle.wh_plan.specs.Plan.{relation_covers};
 ghost use Rattle.wh_schema.specs.Warehouse.{pieces as pieces_of};
 
@@ -9,6 +9,7 @@ use crate::inverse::Inverse;
 use wh_base::Places;
 use wh_covers::Piece;
 use wh_eval::Base;
+use wh_expr::Expr;
 use wh_schema::Spec;
 
 /// The pieces of a relation.
@@ -27,6 +28,14 @@ pub(crate) fn covers_of<'b, B: Base>(inverse: &'b Inverse<'_, B>, rel: u32) -> &
     inverse.plan.covers.as_slice()[rel as usize].as_slice()
 }
 
+/// The expression of a relation over its complement, the views and the relations before it in the order.
+pub(crate) fn inverse_of<'b, B: Base>(inverse: &'b Inverse<'_, B>, rel: u32) -> &'b Expr
+    requires { rel < length inverse.now.plan.now.spec.relations }
+    ensures { ∥ result.now ≡ inverse_expr inverse.entry.now.plan.now.spec rel ∥₁ }
+{
+    &inverse.plan.inverse_exprs.as_slice()[rel as usize]
+}
+
 /// The number of a view.
 pub(crate) fn view_number(spec: &Spec, view: u32) -> u32
     requires numbered { IsNumbered spec.now }
@@ -43,4 +52,11 @@ pub(crate) fn complement_number(spec: &Spec, rel: u32) -> u32
     ensures { result ≡ complement_number spec.now rel }
 {
     spec.relations.len() as u32 + spec.views.len() as u32 + rel
+}
+
+/// Whether a number is that of a relation.
+pub(crate) fn is_relation(spec: &Spec, number: u32) -> bool
+    ensures { result ≡ nat_lt number (length spec.now.relations) }
+{
+    (number as usize) < spec.relations.len()
 }

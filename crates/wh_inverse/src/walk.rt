@@ -10,6 +10,7 @@ ghost use Rattle.wh_expr.specs.SameTable.{SameTable};
 ghost use Rattle.wh_inverse.specs.Asked.{AreAsked, key_columns, cover_table};
 ghost use Rattle.wh_inverse.specs.Inverse.{back, stored_below};
 ghost use Rattle.wh_plan.specs.Plan.{relation_covers};
+ghost use Rattle.wh_schema.specs.Reconstruction.{reconstructed};
 ghost use Rattle.wh_schema.specs.Warehouse.{columns_of, view_at as view_in, pieces, piece_table, pieces_at};
 
 use crate::inverse::Inverse;
@@ -199,4 +200,22 @@ fn found_in_piece<B: Base, L: Ledger>(
             under_right(alloc, found, inclusion)?.project(alloc, &piece.attrs)
         }
     }
+}
+
+/// Each row of a relation with these values at the columns once.
+pub(crate) fn relation_where<B: Base, L: Ledger>(
+    alloc: Global,
+    inverse: &Inverse<'_, B>,
+    rel: u32,
+    cols: &Names,
+    vals: &Row,
+    steps: &mut Steps<L>,
+) -> Result<Rows, NoMemory>
+    requires relation { rel < length inverse.now.plan.now.spec.relations }
+    requires asked { AreAsked (columns_of inverse.now.plan.now.spec rel) cols.now vals.now }
+    ensures rows { IfOk result (λ rows. IsSetOf rows (matching (columns_of inverse.now.plan.now.spec rel) cols.now vals.now (get_or (reconstructed inverse.now.plan.now.spec (stored_below inverse.now.plan.now.spec (B.rows_at inverse.now.below.now))) rel []))) }
+    ensures probes { steps.old.probes ≤ steps.new.probes }
+    ensures scans { steps.new.scans ≡ steps.old.scans }
+{
+    Ok(found_at(alloc, inverse, rel, cols, vals, steps)?.rows)
 }

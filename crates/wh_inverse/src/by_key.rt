@@ -1,0 +1,66 @@
+//! The row of a relation with a key.
+ghost use Rattle.std.specs.Prelude.{◌≡◌, ◌≤◌, ◌<◌, [], length, get_or, slice_get, IfOk};
+ghost use Rattle.wh_base.specs.RowSet.{SameRows};
+ghost use Rattle.wh_base.specs.Tables.{matching};
+ghost use Rattle.wh_inverse.specs.Inverse.{stored_below};
+ghost use Rattle.wh_inverse.specs.Laws.{IsOneOf, IsRowWithKey};
+ghost use Rattle.wh_laws.specs.Laws.{LegalState};
+ghost use Rattle.wh_schema.specs.Reconstruction.{reconstructed, SameTables};
+ghost use Rattle.wh_schema.specs.Warehouse.{State, columns_of, key_of, stored};
+
+use crate::inverse::Inverse;
+use crate::parts::{cut, narrow};
+use crate::walk::found_at;
+use std::alloc::Global;
+use wh_base::{NoMemory, Row, Rows, names_of, shared};
+use wh_covers::relation_at;
+use wh_eval::Base;
+use wh_steps::{Ledger, Steps};
+
+fn first_of(rows: Rows) -> Option<Row>
+    ensures { result ≡ slice_get rows 0 }
+{
+    rows.into_vec().into_iter().next()
+}
+
+/// The rows of a relation with these values at the key. A name that stands twice in the key is asked once, and its two values are
+/// compared afterwards.
+fn rows_with_key<B: Base, L: Ledger>(
+    alloc: Global,
+    inverse: &Inverse<'_, B>,
+    rel: u32,
+    key: &Row,
+    steps: &mut Steps<L>,
+) -> Result<Rows, NoMemory>
+    requires { rel < length inverse.now.plan.now.spec.relations }
+    ensures rows { IfOk result (λ rows. SameRows rows (matching (columns_of inverse.now.plan.now.spec rel) (key_of inverse.now.plan.now.spec rel) key.now (get_or (reconstructed inverse.now.plan.now.spec (stored_below inverse.now.plan.now.spec (B.rows_at inverse.now.below.now))) rel []))) }
+    ensures probes { steps.old.probes ≤ steps.new.probes }
+    ensures scans { steps.new.scans ≡ steps.old.scans }
+{
+    let relation = relation_at(&inverse.plan.spec, rel);
+    let columns = names_of(alloc, &relation.attrs)?;
+    let asked = shared(alloc, relation.key.as_slice(), columns.as_slice())?;
+    let vals = cut(alloc, relation.key.as_slice(), asked.as_slice(), key)?;
+    let found = found_at(alloc, inverse, rel, &asked, &vals, steps)?;
+    Ok(narrow(alloc, found, &relation.key, key)?.rows)
+}
+
+impl<'a, B: Base> Inverse<'a, B> {
+    /// The row of a relation with these values at its key, or None exactly where it has no such row. No table is read as a whole.
+    pub fn by_key<L: Ledger>(
+        &self,
+        alloc: Global,
+        rel: u32,
+        key: &Row,
+        steps: &mut Steps<L>,
+    ) -> Result<Option<Row>, NoMemory>
+        requires { rel < length self.now.plan.now.spec.relations }
+        ensures row { IfOk result (λ row. IsOneOf row (matching (columns_of self.now.plan.now.spec rel) (key_of self.now.plan.now.spec rel) key.now (get_or (reconstructed self.now.plan.now.spec (stored_below self.now.plan.now.spec (B.rows_at self.now.below.now))) rel []))) }
+        ensures legal { (s : State) → LegalState self.now.plan.now.spec s → SameTables (stored_below self.now.plan.now.spec (B.rows_at self.now.below.now)) (stored self.now.plan.now.spec s)
+            → IfOk result (IsRowWithKey self.now.plan.now.spec s rel key.now) }
+        ensures probes { steps.old.probes ≤ steps.new.probes }
+        ensures scans { steps.new.scans ≡ steps.old.scans }
+    {
+        Ok(first_of(rows_with_key(alloc, self, rel, key, steps)?))
+    }
+}

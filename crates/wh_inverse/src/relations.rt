@@ -1,0 +1,151 @@
+//! The relations, computed one after another.
+ghost use Rattle.std.specs.Prelude.{◌≡◌, ◌≤◌, ◌<◌, [], set, replicate, length, get_or, IfOk};
+ghost use Rattle.wh_base.specs.RowSet.{IsSetOf};
+ghost use Rattle.wh_covers.specs.Covers.{IsNumbered};
+ghost use Rattle.wh_eval.specs.Lists.{HasDistinctRows};
+ghost use Rattle.wh_inverse.specs.Filled.{table_count, first_rows, step_rows, AreFilled};
+ghost use Rattle.wh_inverse.specs.Inverse.{stored_below};
+ghost use Rattle.wh_schema.specs.Reconstruction.{reconstruct_next, reconstructed};
+ghost use Rattle.wh_schema.specs.Warehouse.{State as SourceState};
+
+use crate::inverse::Inverse;
+use crate::planned::inverse_of;
+use std::alloc::Global;
+use wh_base::{NoMemory, Rows, State};
+use wh_eval::{Base, Lists, eval};
+use wh_plan::inverse_exprs_mean_steps;
+use wh_schema::Spec;
+use wh_steps::{Ledger, Steps};
+
+fn table_count(spec: &Spec) -> u32
+    requires { IsNumbered spec.now }
+    ensures { result ≡ table_count spec.now }
+{
+    spec.relations.len() as u32 + spec.views.len() as u32 + spec.relations.len() as u32
+}
+
+/// No row for a relation, and the rows of the base below for another number.
+fn first_rows<B: Base, L: Ledger>(
+    alloc: Global,
+    inverse: &Inverse<'_, B>,
+    number: u32,
+    steps: &mut Steps<L>,
+) -> Result<Rows, NoMemory>
+    requires { number < table_count inverse.now.plan.now.spec }
+    ensures rows { IfOk result (λ rows. IsSetOf rows (first_rows inverse.now.plan.now.spec (B.rows_at inverse.now.below.now) number)) }
+    ensures probes { steps.old.probes ≤ steps.new.probes }
+    ensures scans { steps.old.scans ≤ steps.new.scans }
+{
+    if (number as usize) < inverse.plan.spec.relations.len() {
+        Ok(Rows::new(alloc))
+    } else {
+        inverse.below.rows(alloc, number, steps)
+    }
+}
+
+/// Tables for all numbers, without a row in the relations.
+fn first_tables<B: Base, L: Ledger>(
+    alloc: Global,
+    inverse: &Inverse<'_, B>,
+    steps: &mut Steps<L>,
+) -> Result<State, NoMemory>
+    ensures tables { IfOk result (λ tables. AreFilled inverse.now.plan.now.spec (B.rows_at inverse.now.below.now) (replicate (length inverse.now.plan.now.spec.relations) []) tables) }
+    ensures probes { steps.old.probes ≤ steps.new.probes }
+    ensures scans { steps.old.scans ≤ steps.new.scans }
+{
+    let mut tables = State::new(alloc);
+    for number in 0..table_count(&inverse.plan.spec) {
+        tables.push(first_rows(alloc, inverse, number, steps)?)?;
+    }
+    Ok(tables)
+}
+
+/// The rows of a relation, over the relations before it.
+fn next_rows<B: Base, L: Ledger>(
+    alloc: Global,
+    inverse: &Inverse<'_, B>,
+    tables: &State,
+    rel: u32,
+    steps: &mut Steps<L>,
+) -> Result<Rows, NoMemory>
+    requires relation { rel < length inverse.now.plan.now.spec.relations }
+    requires count { length tables.now ≡ table_count inverse.now.plan.now.spec }
+    requires distinct { HasDistinctRows tables.now }
+    ensures rows { IfOk result (λ rows. IsSetOf rows (step_rows inverse.now.plan.now.spec tables.now rel)) }
+    ensures probes { steps.old.probes ≤ steps.new.probes }
+    ensures scans { steps.old.scans ≤ steps.new.scans }
+{
+    inverse_exprs_mean_steps();
+    let lists = Lists::new(inverse.below.heads(), tables);
+    eval(alloc, inverse_of(inverse, rel), &lists, steps)
+}
+
+fn with_rows(tables: State, rel: u32, rows: Rows) -> State
+    requires { rel < length tables }
+    ensures { result ≡ set tables rel rows }
+{
+    let mut items = tables.into_vec();
+    items[rel as usize] = rows;
+    State::from_vec(items)
+}
+
+/// The tables with one relation more, and what they are then.
+fn next_tables<B: Base, L: Ledger>(
+    alloc: Global,
+    inverse: &Inverse<'_, B>,
+    tables: State,
+    rel: u32,
+    steps: &mut Steps<L>,
+) -> Result<State, NoMemory>
+    requires relation { rel < length inverse.now.plan.now.spec.relations }
+    requires count { length tables ≡ table_count inverse.now.plan.now.spec }
+    requires distinct { HasDistinctRows tables }
+    ensures tables { IfOk result (λ more. (s : SourceState) → AreFilled inverse.now.plan.now.spec (B.rows_at inverse.now.below.now) s tables
+        → AreFilled inverse.now.plan.now.spec (B.rows_at inverse.now.below.now) (reconstruct_next inverse.now.plan.now.spec (stored_below inverse.now.plan.now.spec (B.rows_at inverse.now.below.now)) s rel) more) }
+    ensures probes { steps.old.probes ≤ steps.new.probes }
+    ensures scans { steps.old.scans ≤ steps.new.scans }
+{
+    let rows = next_rows(alloc, inverse, &tables, rel, steps)?;
+    Ok(with_rows(tables, rel, rows))
+}
+
+/// Tables for all numbers, each relation computed once, in the order of the plan.
+fn all_tables<B: Base, L: Ledger>(
+    alloc: Global,
+    inverse: &Inverse<'_, B>,
+    steps: &mut Steps<L>,
+) -> Result<State, NoMemory>
+    ensures tables { IfOk result (λ tables. AreFilled inverse.now.plan.now.spec (B.rows_at inverse.now.below.now) (reconstructed inverse.now.plan.now.spec (stored_below inverse.now.plan.now.spec (B.rows_at inverse.now.below.now))) tables) }
+    ensures probes { steps.old.probes ≤ steps.new.probes }
+    ensures scans { steps.old.scans ≤ steps.new.scans }
+{
+    let mut tables = first_tables(alloc, inverse, steps)?;
+    for rel in inverse.plan.order.as_slice() {
+        tables = next_tables(alloc, inverse, tables, *rel, steps)?;
+    }
+    Ok(tables)
+}
+
+fn taken_out(tables: State, rel: u32) -> Rows
+    requires { rel < length tables }
+    ensures { result ≡ get_or tables rel [] }
+{
+    let mut items = tables.into_vec();
+    items.swap_remove(rel as usize)
+}
+
+/// Each row of a relation once.
+pub(crate) fn relation_rows<B: Base, L: Ledger>(
+    alloc: Global,
+    inverse: &Inverse<'_, B>,
+    rel: u32,
+    steps: &mut Steps<L>,
+) -> Result<Rows, NoMemory>
+    requires { rel < length inverse.now.plan.now.spec.relations }
+    ensures rows { IfOk result (λ rows. IsSetOf rows (get_or (reconstructed inverse.now.plan.now.spec (stored_below inverse.now.plan.now.spec (B.rows_at inverse.now.below.now))) rel [])) }
+    ensures probes { steps.old.probes ≤ steps.new.probes }
+    ensures scans { steps.old.scans ≤ steps.new.scans }
+{
+    let tables = all_tables(alloc, inverse, steps)?;
+    Ok(taken_out(tables, rel))
+}
