@@ -4,7 +4,7 @@ use Rattle.wh_schema.specs.Reconstruction.{reconstructed}
 use Rattle.wh_schema.specs.Warehouse.{columns_of, key_of}
 use Rattle.wh_inverse.specs.Inverse.{stored_below}
 use Rattle.wh_inverse.proofs.GivenLemmas.{one-found, row-with-key}
-use Rattle.wh_inverse.proofs.by_key.Inverse.by_key.Goals as goal
+use Rattle.wh_inverse.proofs.inverse.Inverse.by_key.Goals as goal
 
 pub returns-clause-row : goal.returns-clause-row
 returns-clause-row g c =
