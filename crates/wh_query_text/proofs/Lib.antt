@@ -7,3 +7,4 @@ pub mod Fits
 pub mod ShownLemmas
 pub mod PrefixTrip
 pub mod QueryTextTrip
+pub mod TextualQueries

@@ -126,7 +126,7 @@ module _ (number : List ℕ → ℕ) (heads : List Head) (most : ℕ) (printed_n
   AtLevel (suc (suc zero)) = IsTerm
   AtLevel (suc (suc (suc n))) = IsFactor
 
-  stops : (words : Symbol → Option Infix) (p : Part Expr) (a : Expr) (i : Input) → words (next i) ≡ None → each (e.attach_expr number) (e.further number words p) a i ≡ Ok (a, i)
+  pub stops : (words : Symbol → Option Infix) (p : Part Expr) (a : Expr) (i : Input) → words (next i) ≡ None → each (e.attach_expr number) (e.further number words p) a i ≡ Ok (a, i)
   stops words p a i none = each_stops (e.attach_expr number) (e.further number words p) a i (ap is_some none)
 
   to_term : (x : Expr) (d total : ℕ) (ts more : List Lexeme) → IsFactor x d total ts more → IsTerm x d total ts more
@@ -336,7 +336,7 @@ module _ (number : List ℕ → ℕ) (heads : List Head) (most : ℕ) (printed_n
   abbrev Known : RawQuery → Type 0
   Known q = uses_only (λ n. nat_lt n (length heads)) (h q) ≡ true
 
-  level_is : {p l : ℕ} {q : RawQuery} → Fits p l q → l ≡ (T q).level
+  pub level_is : {p l : ℕ} {q : RawQuery} → Fits p l q → l ≡ (T q).level
   level_is (table {at} {n} is) = sym (ap (λ x. (expr_shown heads x).level) (e.expr_named number at n) ∙ ap (λ (t : Shown). t.level) (shown_base heads (number n)))
   level_is (behind {at} {x} {q} is part) = sym (ap (λ y. (expr_shown heads y).level) (e.expr_behind number at x q) ∙ ap (λ (t : Shown). t.level) (shown_applied heads x (h q)))
   level_is (between {at} {a} {b} o left right) = sym (ap (λ y. (expr_shown heads y).level) (e.expr_between number at o a b) ∙ ap (λ (t : Shown). t.level) (shown_combined heads o (h a) (h b)))
