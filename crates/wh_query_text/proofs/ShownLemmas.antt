@@ -4,6 +4,7 @@ use Rattle.std.specs.Prelude.{nat_lt}
 use Rattle.std.specs.List.{flat_map}
 use Rattle.std.specs.Cmp.Lexicographic.{bytes_decides}
 use Rattle.std.proofs.lemmas.Bool.{ltb-true}
+use Rattle.std.proofs.lemmas.List.{length-append, length-map}
 use Rattle.wh_base.specs.declared.cond.Cond.{Cond}
 use Rattle.wh_base.specs.declared.head.Head.{Head}
 use Rattle.wh_base.specs.Columns.{name_eq, place_of}
@@ -132,3 +133,15 @@ number_named spec n h =
     let is : b ≡ true = number_turn b (place_of known n) (length (heads_of spec)) h in
     ap (name_at (heads_of spec)) (chosen b (place_of known n) (length (heads_of spec)) is)
     ∙ place_named (heads_of spec) known (map (λ h. h.name) (map complement_head spec.relations)) n (heads_named spec) (ltb-true (place_of known n) (length known) is)
+
+-- such a number is that of a relation or a view
+pub number_known : (spec : Spec) (n : List ℕ) → nat_lt (number_of spec n) (length (heads_of spec)) ≡ true → nat_lt (number_of spec n) (length spec.relations + length spec.views) ≡ true
+number_known spec n h =
+    let known = known_names spec in
+    let b = nat_lt (place_of known n) (length known) in
+    let is : b ≡ true = number_turn b (place_of known n) (length (heads_of spec)) h in
+    let count : length known ≡ length spec.relations + length spec.views =
+    omega (arith, length-append (map (λ r. r.name) spec.relations) (map (λ v. v.name) spec.views), length-map spec.relations (λ r. r.name), length-map spec.views (λ v. v.name)) in
+    ap (λ k. nat_lt k (length spec.relations + length spec.views)) (chosen b (place_of known n) (length (heads_of spec)) is)
+    ∙ ap (λ m. nat_lt (place_of known n) m) (sym count)
+    ∙ is

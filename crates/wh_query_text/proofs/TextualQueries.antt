@@ -1,7 +1,7 @@
 -- What a query text gives, its printed form gives again.
-use Rattle.std.proofs.Common.{◌≡◌, ◌<◌, ◌≤◌, ℕ, suc, ◌+◌, Bool, true, false, List, [], ◌∷◌, ◌++◌, length, map, nat_lt, IsTrue, Result, Ok, Err, Some, None, refl, sym, ap, subst, ◌∙◌, arith}
+use Rattle.std.proofs.Common.{◌≡◌, ◌<◌, ◌≤◌, ℕ, suc, ◌+◌, Bool, true, false, ◌&&◌, List, [], ◌∷◌, ◌++◌, length, map, nat_lt, IsTrue, Result, Ok, Err, Some, None, refl, sym, ap, subst, ◌∙◌, arith}
 use Rattle.std.specs.Prelude.{nat_le}
-use Rattle.std.proofs.lemmas.Bool.{leb-true}
+use Rattle.std.proofs.lemmas.Bool.{leb-true, and_parts}
 use Rattle.std.proofs.lemmas.List.{append-nil, length-map}
 use Rattle.wh_base.specs.declared.value.Attr.{Attr}
 use Rattle.wh_lex.specs.declared.token.Token.{Token}
@@ -13,7 +13,7 @@ use Rattle.wh_expr.specs.declared.expr.Expr.{Expr}
 use Rattle.wh_expr.specs.declared.fault.TypeCause.{TypeCause}
 use Rattle.wh_expr.specs.declared.fault.TypeCause.TheVariants.{TooDeep, TooBig}
 use Rattle.wh_expr.specs.Meaning.{uses_only}
-use Rattle.wh_expr.specs.Typing.{Fault, Typing, Answers, here, unless, depth, size, typing, limited_typing}
+use Rattle.wh_expr.specs.Typing.{Fault, Typing, Answers, IsWellTyped, here, unless, depth, size, typing, limited_typing}
 use Rattle.wh_expr.proofs.TypedLemmas.{numbers-answer}
 use Rattle.wh_grammar.specs.declared.fault.TextFault.{TextFault}
 use Rattle.wh_grammar.specs.declared.symbol.Symbol.TheVariants as s
@@ -34,11 +34,11 @@ use Rattle.wh_query_text.specs.Printed.{Shown, placed, expr_shown, expr_text}
 use Rattle.wh_query_text.specs.Queries as g
 use Rattle.wh_query_text.specs.Queries.{sum_of}
 use Rattle.wh_query_text.specs.QueryTexts.{raw_of_text, ruled, expr_of, number_of, query_of_expr, query_of_raw, query_of_text}
-use Rattle.wh_query_text.specs.QueryTrip.{AnswersAreTextual}
+use Rattle.wh_query_text.specs.QueryLaws.{AnswersAreTyped, AnswersAreTextual}
 use Rattle.wh_query_text.proofs.Fits.{Held, bare, grouped, Fits, table, behind, between, raw_fits}
 use Rattle.wh_query_text.proofs.PlacedLemmas.{placed_tight}
 use Rattle.wh_query_text.proofs.QueryTextLemmas.{raw_is, query_is}
-use Rattle.wh_query_text.proofs.ShownLemmas.{number_named}
+use Rattle.wh_query_text.proofs.ShownLemmas.{number_named, number_known, uses_base, uses_applied, uses_combined}
 use Rattle.wh_query_text.proofs.QueryTextTrip.{Text, whole_text, level_is, stops}
 use Rattle.wh_query_text.proofs.Unplaced as e
 
@@ -132,6 +132,48 @@ one_level (between infixes.Join left right) = omega arith
 unplaced : (spec : Spec) {q : RawQuery} → Held 0 1 q → placed 1 (expr_shown (heads_of spec) (expr_of (number_of spec) q)) ≡ expr_text (heads_of spec) (expr_of (number_of spec) q)
 unplaced spec {q} (bare {l} le f) = placed_tight 1 l (expr_shown (heads_of spec) (expr_of (number_of spec) q)) (level_is (number_of spec) (heads_of spec) 0 (number_named spec) f) le
 unplaced spec (grouped lt room f) = absurd (omega (arith, one_level f))
+
+-- ---- the numbers that it uses
+
+and_true : (x y : Bool) → x ≡ true → y ≡ true → (x && y) ≡ true
+and_true true true h k = refl
+and_true true false h k = k
+and_true false y h k = h
+
+-- what holds of the numbers of its names holds of all that it uses
+module _ (number : List ℕ → ℕ) (P Q : ℕ → Bool) (step : (n : List ℕ) → P (number n) ≡ true → Q (number n) ≡ true) where
+  mutual
+    fits_uses : {p l : ℕ} {q : RawQuery} → Fits p l q → uses_only P (expr_of number q) ≡ true → uses_only Q (expr_of number q) ≡ true
+    fits_uses (table {at} {n} is) known =
+        let named = e.expr_named number at n in
+        ap (uses_only Q) named ∙ uses_base Q (number n) ∙ step n (sym (ap (uses_only P) named ∙ uses_base P (number n)) ∙ known)
+    fits_uses (behind {at} {x} {q} is part) known =
+        let named = e.expr_behind number at x q in
+        ap (uses_only Q) named ∙ uses_applied Q x (expr_of number q) ∙ held_uses part (sym (ap (uses_only P) named ∙ uses_applied P x (expr_of number q)) ∙ known)
+    fits_uses (between {at} {a} {b} o left right) known =
+        let named = e.expr_between number at o a b in
+        let both = and_parts (uses_only P (expr_of number a)) (uses_only P (expr_of number b)) (sym (ap (uses_only P) named ∙ uses_combined P o (expr_of number a) (expr_of number b)) ∙ known) in
+        ap (uses_only Q) named ∙ uses_combined Q o (expr_of number a) (expr_of number b)
+        ∙ and_true (uses_only Q (expr_of number a)) (uses_only Q (expr_of number b)) (held_uses left both.0) (held_uses right both.1)
+
+    held_uses : {p least : ℕ} {q : RawQuery} → Held p least q → uses_only P (expr_of number q) ≡ true → uses_only Q (expr_of number q) ≡ true
+    held_uses (bare le f) known = fits_uses f known
+    held_uses (grouped lt room f) known = fits_uses f known
+
+pub answers_are_typed : AnswersAreTyped
+unfolding query_of_text
+answers_are_typed spec text q is =
+    let r = raw_read spec (raw_of_text text) q is in
+    let raw = r.0 in
+    let heads = heads_of spec in
+    let x = expr_of (number_of spec) raw in
+    let t = limited_typing heads x in
+    let kept = ruled_kept raw x t.attrs t.faults q r.2 in
+    let clean = no_faults (here (unless (nat_le (depth x) 64) TooDeep ++ unless (nat_le (size x) 1000) TooBig)) (typing heads x).faults kept.0 in
+    let known : uses_only (λ n. nat_lt n (length heads)) x ≡ true = numbers-answer heads x (Ok t.attrs) (clean.1, refl) in
+    let sources : uses_only (λ n. nat_lt n (length spec.relations + length spec.views)) x ≡ true =
+    held_uses (number_of spec) (λ n. nat_lt n (length heads)) (λ n. nat_lt n (length spec.relations + length spec.views)) (number_known spec) (raw_fits text raw r.1) known in
+    subst (λ (u : Query). IsTrue (uses_only (λ n. nat_lt n (length spec.relations + length spec.views)) u.expr) × IsWellTyped heads u.expr × (u.attrs ≡ (typing heads u.expr).attrs)) (sym kept.1) (sources, clean.1, refl)
 
 pub answers_are_textual : AnswersAreTextual
 unfolding query_of_text

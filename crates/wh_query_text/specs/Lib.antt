@@ -2,4 +2,4 @@ pub mod Printed
 pub mod Queries
 pub mod QueryTexts
 pub mod QueryData
-pub mod QueryTrip
+pub mod QueryLaws

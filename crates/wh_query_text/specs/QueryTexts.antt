@@ -43,6 +43,7 @@ combined infixes.Union left right = expr.Union left right
 combined infixes.Minus left right = expr.Minus left right
 combined infixes.Join left right = expr.Join left right
 
+-- from the expressions of the parts
 abbrev pub expr_at : (List ℕ → ℕ) → RawQuery-F Expr → Expr
 expr_at number (RawQuery-F.Named at name) = expr.Base (number name)
 expr_at number (RawQuery-F.Behind at p e) = applied p e
@@ -66,6 +67,7 @@ number_of spec = number_among (known_names spec) (length (heads_of spec))
 
 -- ---- places
 
+-- from the places of the parts
 abbrev pub place_below_at : RawQuery-F (List ℕ → ℕ) → List ℕ → ℕ
 place_below_at (RawQuery-F.Named at name) path = at
 place_below_at (RawQuery-F.Behind at p part) [] = at

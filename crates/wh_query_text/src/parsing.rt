@@ -1,7 +1,7 @@
 ghost use Rattle.std.specs.Prelude.{◌≡◌, ◌≢◌, ◌+◌, ◌<◌, ◌^◌, length, Ok, Err, IfOk, IfErr};
 ghost use Rattle.wh_schema.specs.Heads.{heads_of};
 ghost use Rattle.wh_query_text.specs.QueryTexts.{raw_of_text, query_of_expr, query_of_text};
-ghost use Rattle.wh_query_text.specs.QueryTrip.{AnswersAreTextual};
+ghost use Rattle.wh_query_text.specs.QueryLaws.{AnswersAreTyped, AnswersAreTextual};
 
 use crate::fault::QueryFault;
 use crate::raw::RawQuery;
@@ -66,6 +66,11 @@ pub fn parse_query(alloc: Global, text: &[u8], spec: &Spec) -> Result<Query, Que
     let expr = expr_of(alloc, &raw, known.as_slice(), heads.len() as u32)?;
     ruled(alloc, &raw, expr, spec, &heads)
 }
+
+/// Every query that a text gives names relations and views alone, breaks no rule, and has the attributes of its expression.
+pub fn answers_are_typed()
+    ensures { AnswersAreTyped }
+{}
 
 /// Every query that a text gives is given by its printed form too.
 pub fn answers_are_textual()
