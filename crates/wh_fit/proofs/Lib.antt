@@ -1,5 +1,6 @@
 pub mod AcceptedKinds
 pub mod Carried
+pub mod DifferenceLemmas
 pub mod DumpLemmas
 pub mod Each
 pub mod JoinedKinds

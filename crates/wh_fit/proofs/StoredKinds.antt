@@ -82,6 +82,17 @@ module _ (spec : Spec) where
       slice_right (relations ++ views) complements r ∙ slice_map complement_head spec.relations r no_relation l in
       attrs_are (heads_of spec) (length spec.relations + (length spec.views + r)) (complement_head (relation_at spec r)) (ap (slice_get (heads_of spec)) place ∙ here)
 
+pub stored_count_is : (spec : Spec) (s : State) → length (stored spec s) ≡ stored_count spec
+stored_count_is spec s =
+    let view : ℕ → List Row = λ j. in_order (view_table spec s j).rows in
+    let rest : ℕ → List Row = λ r. in_order (complement spec (sources_of spec s) r) in
+    omega (
+      arith,
+      length-append (map view (numbers (length spec.views))) (map rest (numbers (length spec.relations))),
+      length_numbers_map view (length spec.views),
+      length_numbers_map rest (length spec.relations),
+    )
+
 -- ---- the values of an assignment
 
 -- the values of a row that fits have the kinds of their names
@@ -156,9 +167,5 @@ module _ (spec : Spec) (s : State) (wf : WellFormed spec) (kd : IsKinded spec) (
 
   pub stored_fits : fit_stored spec (stored spec s) ≡ true
   stored_fits =
-      let views = map (λ j. in_order (view_table spec s j).rows) (numbers (length spec.views)) in
-      let rest = map (λ r. in_order (complement spec (sources_of spec s) r)) (numbers (length spec.relations)) in
-      let count : length (stored spec s) ≡ stored_count spec =
-      omega (arith, length-append views rest, length_numbers_map (λ j. in_order (view_table spec s j).rows) (length spec.views), length_numbers_map (λ r. in_order (complement spec (sources_of spec s) r)) (length spec.relations)) in
-      and_from (length (stored spec s) == stored_count spec) _ (eq-eqb _ _ count)
+      and_from (length (stored spec s) == stored_count spec) _ (eq-eqb _ _ (stored_count_is spec s))
       (every_in (λ k. fits_stored spec k (get_or (stored spec s) k [])) (numbers (stored_count spec)) (λ k h. table_fits k (numbers_from (stored_count spec) k h)))

@@ -2,6 +2,7 @@
 //! the clause of a function that does nothing.
 #![tactic(auto)]
 
+ghost use Rattle.wh_fit.specs.Differences.{DifferencesApply, ChangesAreStored};
 ghost use Rattle.wh_fit.specs.Fit.{FittingIsState, ValuesAreCarried, ComplementsAreRows, TextsAreWellFormed, StoredFits, StoredIsSpelled, PartsAreSpelled, SourcesFit, UnderIsCounted, DumpsFit, DumpsAreLoaded, ChangesFit, LinesKeepFit, BodiesAreRead};
 
 /// A state whose rows have the kinds of their attributes has rows of the right widths.
@@ -72,4 +73,14 @@ pub fn lines_keep_fit()
 /// The body of a frame that has one is read as this frame.
 pub fn bodies_are_read()
     ensures { BodiesAreRead }
+{}
+
+/// The differences between tables that have a spelling have one, apply, and lead from the first tables to the second.
+pub fn differences_apply()
+    ensures { DifferencesApply }
+{}
+
+/// The differences between what is stored of two states are a change of the stored tables.
+pub fn changes_are_stored()
+    ensures { ChangesAreStored }
 {}
