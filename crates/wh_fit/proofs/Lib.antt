@@ -3,6 +3,8 @@ pub mod Carried
 pub mod DifferenceLemmas
 pub mod DumpLemmas
 pub mod Each
+pub mod Example
+pub mod HeldLemmas
 pub mod JoinedKinds
 pub mod KindLemmas
 pub mod LineLemmas

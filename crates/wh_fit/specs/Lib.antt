@@ -1,2 +1,4 @@
 pub mod Differences
+pub mod Example
 pub mod Fit
+pub mod Held

@@ -3,7 +3,9 @@
 #![tactic(auto)]
 
 ghost use Rattle.wh_fit.specs.Differences.{DifferencesApply, ChangesAreStored};
+ghost use Rattle.wh_fit.specs.Example.{ShopFits};
 ghost use Rattle.wh_fit.specs.Fit.{FittingIsState, ValuesAreCarried, ComplementsAreRows, TextsAreWellFormed, StoredFits, StoredIsSpelled, PartsAreSpelled, SourcesFit, UnderIsCounted, DumpsFit, DumpsAreLoaded, ChangesFit, LinesKeepFit, BodiesAreRead};
+ghost use Rattle.wh_fit.specs.Held.{ChangedAreSpelled, ImagesFit, StandingFits};
 
 /// A state whose rows have the kinds of their attributes has rows of the right widths.
 pub fn fitting_is_state()
@@ -83,4 +85,24 @@ pub fn differences_apply()
 /// The differences between what is stored of two states are a change of the stored tables.
 pub fn changes_are_stored()
     ensures { ChangesAreStored }
+{}
+
+/// Tables keep their spelling through deltas that have one.
+pub fn changed_are_spelled()
+    ensures { ChangedAreSpelled }
+{}
+
+/// What a file holds fits its specification, and its values have a spelling.
+pub fn images_fit()
+    ensures { ImagesFit }
+{}
+
+/// The state that two files stand for fits, and its values have a spelling.
+pub fn standing_fits()
+    ensures { StandingFits }
+{}
+
+/// A shop: its state fits, and rows of other kinds or widths do not.
+pub fn shop_fits()
+    ensures { ShopFits }
 {}

@@ -1,0 +1,5 @@
+pub mod AnswerLemmas
+pub mod Below
+pub mod QuerySources
+pub mod SameSources
+pub mod UsedMeaning

@@ -1,0 +1,29 @@
+use Rattle.std.proofs.Common.{◌≡◌, IfOk, List, ap, subst, ◌∙◌}
+use Rattle.wh_schema.specs.Warehouse.{Row}
+use Rattle.wh_store.proofs.TextualLemmas.{textual_is_well_formed, textual_is_numbered, textual_has_keys}
+use Rattle.wh_answer.proofs.Below.{fit_over, rows_answered}
+use Rattle.wh_answer.proofs.answering.sorted_rows.Goals as goal
+
+pub new-stored-requires-clause-fits : goal.new-stored-requires-clause-fits
+new-stored-requires-clause-fits g c = fit_over c.args.w.now c.requires.form c.in_ok-heads.heads c.in_ok-heads.ensures
+
+pub new-inverse-requires-clause-rules : goal.new-inverse-requires-clause-rules
+new-inverse-requires-clause-rules g c = textual_is_well_formed c.args.w.now.plan.spec c.requires.form.textual
+
+pub new-inverse-requires-clause-keys : goal.new-inverse-requires-clause-keys
+new-inverse-requires-clause-keys g c = textual_has_keys c.args.w.now.plan.spec c.requires.form.textual
+
+pub new-inverse-requires-clause-numbered : goal.new-inverse-requires-clause-numbered
+new-inverse-requires-clause-numbered g c = textual_is_numbered c.args.w.now.plan.spec c.requires.form.textual
+
+pub returns-clause-rows : goal.returns-clause-rows
+returns-clause-rows g c =
+    let w = c.args.w.now in
+    let below = c.new-inverse.ensures.below in
+    let e =
+    rows_answered w c.requires.form _ _ _ c.args.q.now.expr c.in_ok-rows.rows
+    (ap (λ p. p.spec) c.new-inverse.ensures.plan)
+    (ap (λ s. s.heads.now) below ∙ c.new-stored.ensures.heads ∙ c.in_ok-heads.ensures)
+    (ap (λ s. s.tables.now) below ∙ c.new-stored.ensures.tables)
+    c.in_ok-rows.ensures.rows in
+    subst (λ (meant : List Row). IfOk c.sort_rows.result (λ rows. rows ≡ meant)) e c.sort_rows.ensures
