@@ -1,5 +1,5 @@
 -- Rows of the kinds of their attributes, whose values have a spelling: where they come from, and what is stored of them.
-use Rattle.std.specs.Prelude.{◌≡◌, ℕ, ◌<◌, ◌^◌, true, List, [], ◌∷◌, length, get_or, Ok, Contains}
+use Rattle.std.specs.Prelude.{◌≡◌, ℕ, ◌<◌, ◌^◌, true, List, [], ◌∷◌, length, get_or, None, Some, Ok, Contains}
 use Rattle.std.specs.List.{AllByRecursion}
 use Rattle.wh_base.specs.declared.value.Attr.{Attr}
 use Rattle.wh_base.specs.declared.value.Value.{Value}
@@ -19,7 +19,6 @@ use Rattle.wh_schema.specs.Warehouse.{Row, State, columns_of, relation_at, view_
 use Rattle.wh_spec_text.specs.SpecTexts.{spec_of_text}
 use Rattle.wh_spec_text.specs.Textual.{IsTextualSpec}
 use Rattle.wh_store.specs.Image.{fit_attrs, fit_stored, first_over}
-use Rattle.std.specs.Prelude.{None, Some}
 
 -- ---- states
 
@@ -32,6 +31,7 @@ pub record IsFittingState (spec : Spec) (s : State) : Type 0 where
 abbrev pub AreSpelledRows : List Row → Type 0
 AreSpelledRows rows = AllByRecursion (AllByRecursion IsSpelledValue) rows
 
+-- the same of the rows of each relation
 abbrev pub IsSpelledState : Spec → State → Type 0
 IsSpelledState spec s = (i : ℕ) → i < length spec.relations → AreSpelledRows (get_or s i [])
 
@@ -121,6 +121,7 @@ pub record IsLoad (spec : Spec) (s : State) : Type 0 where
   pub loadable : IsLoadable spec (stored spec s)
   pub tables : AllByRecursion (λ rows. length rows < 2 ^ 32 → IsSpelledTable rows) (stored spec s)
 
+-- where each list of rows of a state is a dump, what is stored of it may be loaded
 abbrev pub DumpsAreLoaded : Type 0
 DumpsAreLoaded = (text : List ℕ) (spec : Spec) (s : State) → spec_of_text text ≡ Ok spec → AreDumps spec s → IsLoad spec s
 

@@ -11,6 +11,7 @@ use Rattle.wh_spec_text.specs.Textual.{IsTextualSpec}
 use Rattle.wh_store.specs.Image.{Image, changed_tables, file_image, first_over, fit_stored}
 use Rattle.wh_store.specs.Warehouse.{Stands}
 
+-- the numbers of a file are bytes
 abbrev pub AreBytes : List ℕ → Type 0
 AreBytes = AllByRecursion (λ b. b < 2 ^ 8)
 
