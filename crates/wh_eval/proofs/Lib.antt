@@ -1,4 +1,4 @@
 mod CutLemmas
 mod EvaluateLemmas
 mod PartnerLemmas
-mod StoredLemmas
+pub mod StoredLemmas
