@@ -1,42 +1,36 @@
 -- What follows from a base below that has the stored tables.
-use Rattle.std.proofs.Common.{◌≡◌, ℕ, suc, zero, ◌+◌, ◌-◌, ◌<◌, ◌≤◌, Bool, true, false, cond, List, [], ◌∷◌, ◌++◌, map, filter, length, get_or, slice_get, nat_lt, Contains, Some, refl, sym, ap, subst, ◌∙◌, arith, inl, inr, zero-add, length-append, true≢false}
+use Rattle.std.proofs.Common.{◌≡◌, ℕ, suc, zero, ◌+◌, ◌<◌, ◌≤◌, Bool, true, List, [], ◌∷◌, ◌++◌, map, length, get_or, nat_lt, Contains, refl, sym, ap, ◌∙◌, arith, zero-add, length-append}
 use Rattle.std.proofs.Math.Logic.{∥∥₁_elim}
 use mathlib.Core.Bool.{Bool-set}
-use Rattle.std.specs.Coded.{Coded, Coded-set, code_by, coded×, coded⊎, coded_list, coded_ℕ, le_prop}
+use Rattle.std.specs.Coded.{Coded-set, coded_list, coded_ℕ, le_prop}
 use Rattle.std.specs.Cmp.Lexicographic.{bytes_decides}
-use Rattle.std.specs.List.{list_all, list_any, flat_map, range_with_len}
-use Rattle.std.proofs.lemmas.Bool.{and_parts}
+use Rattle.std.specs.List.{list_any}
 use Rattle.std.proofs.lemmas.List.{length-map}
 use Rattle.std.proofs.lemmas.List.Elements.{Contains-get_or}
-use Rattle.std.proofs.lemmas.List.FromFn.{get_or-map-range_with_len, length-map-range_with_len, length-range_with_len}
+use Rattle.std.proofs.lemmas.List.FromFn.{get_or-map-range_with_len}
 use Rattle.wh_base.specs.declared.head.Head.{Head}
 use Rattle.wh_base.specs.declared.value.Attr.{Attr}
 use Rattle.wh_base.specs.declared.value.Value.{Value}
-use Rattle.wh_base.specs.Columns.{name_eq, names_of, is_in, all_in, shared}
+use Rattle.wh_base.specs.Columns.{name_eq, names_of, is_in, all_in}
 use Rattle.wh_base.specs.Heads.{columns_at}
-use Rattle.wh_base.specs.RowSet.{has, SameRows}
-use Rattle.wh_base.specs.Tables.{Table}
+use Rattle.wh_base.specs.RowSet.{SameRows}
 use Rattle.wh_covers.specs.Covers.{IsNumbered}
-use Rattle.wh_expr.specs.Typing.{are_distinct}
 use Rattle.wh_plan.specs.Expressions.{left_column}
 use Rattle.wh_schema.specs.declared.piece.Piece.{Piece}
-use Rattle.wh_schema.specs.declared.piece.PieceSource.{PieceSource}
-use Rattle.wh_schema.specs.declared.piece.PieceSource.TheVariants as source
 use Rattle.wh_schema.specs.declared.spec.Inclusion.{Inclusion}
 use Rattle.wh_schema.specs.declared.spec.Relation.{Relation}
 use Rattle.wh_schema.specs.declared.spec.Spec.{Spec}
-use Rattle.wh_schema.specs.declared.spec.View.{View}
 use Rattle.wh_schema.specs.Heads.{heads_of, relation_head, view_head, complement_head, typed_names}
 use Rattle.wh_schema.specs.Legality.{WellFormed}
-use Rattle.wh_schema.specs.Reconstruction.{order, given, reconstructed, reconstructed_rows}
-use Rattle.wh_schema.specs.Warehouse.{Row, numbers, columns_of, key_of, relation_at, view_at, inclusion_at, no_relation, no_view, no_inclusion, pieces, covered}
+use Rattle.wh_schema.specs.Reconstruction.{order, reconstructed}
+use Rattle.wh_schema.specs.Warehouse.{Row, columns_of, key_of, relation_at, view_at, no_relation, no_view, pieces, covered}
 use Rattle.wh_laws.proofs.Equality.{is_in_decides, all_in_from, all_in_when}
 use Rattle.wh_laws.proofs.Lists.{every_from, any_in}
-use Rattle.wh_laws.proofs.Pieces.{piece_from, piece_key, FromView, FromInclusion}
+use Rattle.wh_laws.proofs.Pieces.{piece_key}
 use Rattle.wh_inverse.specs.Asked.{AreAsked, key_columns}
 use Rattle.wh_inverse.specs.Inverse.{IsBelow, have_keys, stored_below, back}
 use Rattle.wh_inverse.proofs.Tests.{lt-from, or_left, or_right, and_so}
-use Rattle.wh_inverse.proofs.Assignments.{in-filter, into-filter}
+use Rattle.wh_inverse.proofs.Assignments.{in-filter}
 use Rattle.wh_inverse.proofs.Beside.{beside_in, beside_apart, distinct-test, distinct-filter, distinct-map}
 use Rattle.wh_inverse.proofs.CoverLemmas.{some-shared}
 use Rattle.wh_inverse.proofs.Places.{place, settled, earlier}

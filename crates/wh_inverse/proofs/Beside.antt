@@ -1,9 +1,9 @@
 -- Names that stand beside others, as the left columns of an inclusion beside the right ones; names that are distinct.
-use Rattle.std.proofs.Common.{◌≡◌, ℕ, suc, Bool, true, false, cond, not, ◌&&◌, ◌||◌, List, [], ◌∷◌, map, filter, length, refl, sym, ◌∙◌, ap, subst, inl, inr, suc-ne-zero, unwrap_or, true≢false}
+use Rattle.std.proofs.Common.{◌≡◌, ℕ, suc, Bool, true, false, cond, not, ◌||◌, List, [], ◌∷◌, map, filter, length, refl, sym, ◌∙◌, ap, inl, inr, suc-ne-zero, unwrap_or, true≢false}
 use Rattle.std.specs.Prelude.{slice_get}
-use Rattle.std.specs.Cmp.{first_so, second_so, both_ways}
+use Rattle.std.specs.Cmp.{first_so, second_so}
 use Rattle.std.specs.Cmp.Lexicographic.{bytes_decides}
-use Rattle.std.specs.List.{IsDistinct, AllByRecursion, list_any}
+use Rattle.std.specs.List.{IsDistinct, AllByRecursion}
 use Rattle.std.proofs.lemmas.Map.Keys.{IsDistinct-head, IsDistinct-tail}
 use Rattle.wh_base.specs.declared.value.Value.{Value}
 use Rattle.wh_base.specs.Columns.{name_eq, place_of, value_at, value_of, is_in}

@@ -1,17 +1,17 @@
 -- The walk through a cover, from piece to piece.
-use Rattle.std.proofs.Common.{◌≡◌, ℕ, zero, suc, ◌+◌, ◌<◌, ◌≤◌, Bool, true, false, not, ◌||◌, List, [], ◌∷◌, ◌++◌, map, length, take, get_or, slice_get, nat_lt, None, Some, unwrap_or, cond, refl, sym, ap, subst, ◌∙◌, arith, true≢false, inl, inr}
+use Rattle.std.proofs.Common.{◌≡◌, ℕ, zero, suc, ◌+◌, ◌<◌, ◌≤◌, Bool, true, false, not, ◌||◌, List, [], ◌∷◌, ◌++◌, map, length, take, get_or, slice_get, None, Some, unwrap_or, cond, refl, sym, ap, subst, ◌∙◌, arith, true≢false, inl, inr}
 use Rattle.std.specs.Cmp.{first_so, second_so}
 use Rattle.std.specs.List.{list_any, list_all, position, position_or_len}
 use Rattle.std.proofs.lemmas.List.Quantifiers.{position-Some}
 use Rattle.std.proofs.lemmas.List.{map-append, take_more, take_all}
 use Rattle.std.proofs.lemmas.Option.{slice_get-get_or, get_or_from_slice_get}
 use Rattle.wh_base.specs.declared.value.Value.{Value}
-use Rattle.wh_base.specs.Columns.{name_eq, cut, is_in, all_in, shared}
+use Rattle.wh_base.specs.Columns.{cut, is_in, all_in, shared}
 use Rattle.wh_base.specs.Tables.{Table, project, join, join_all}
 use Rattle.wh_expr.specs.Narrowed.{narrowed}
 use Rattle.wh_expr.specs.SameTable.{SameTable}
 use Rattle.wh_inverse.specs.Asked.{has_one}
-use Rattle.wh_inverse.proofs.Tests.{or_cases, or_left, or_right, and_so, lt-test, all_in-from, any-map}
+use Rattle.wh_inverse.proofs.Tests.{or_cases, or_left, or_right, lt-test, all_in-from, any-map}
 use Rattle.wh_inverse.proofs.Assignments.{Fits, gives, AllFit, all_in-at, in-filter}
 use Rattle.wh_inverse.proofs.WalkLemmas.{Partial, Partial-first, Partial-join, Partial-skip, Fits-narrowed, narrowed-from, walked}
 

@@ -1,5 +1,5 @@
 -- The tables while the relations are computed one after another.
-use Rattle.std.proofs.Common.{◌≡◌, ℕ, suc, zero, ◌+◌, ◌-◌, ◌<◌, ◌≤◌, Bool, true, false, cond, List, [], ◌∷◌, ◌++◌, map, length, get_or, set, replicate, fold, take, drop, nat_lt, Contains, refl, sym, ap, subst, ◌∙◌, arith, inl, inr, ◌⊎◌, length-append, add-one}
+use Rattle.std.proofs.Common.{◌≡◌, ℕ, suc, zero, ◌+◌, ◌<◌, ◌≤◌, Bool, true, false, cond, List, [], ◌∷◌, ◌++◌, length, get_or, set, replicate, fold, take, drop, nat_lt, refl, sym, ap, subst, ◌∙◌, arith, inl, inr, ◌⊎◌, length-append}
 use Rattle.std.proofs.Math.Logic.{∥∥₁_elim}
 use mathlib.Core.Bool.{Bool-set}
 use Rattle.std.specs.List.{IsDistinct}
@@ -7,20 +7,17 @@ use Rattle.std.proofs.lemmas.Bool.{cases_eq}
 use Rattle.std.proofs.lemmas.List.{get_or-set_same, get_or-set_other, length-set, length-replicate, get_or-replicate, get_or-drop, get_or_append_left, get_or-append-add, take_more}
 use Rattle.std.proofs.lemmas.List.Elements.{Contains-get_or}
 use Rattle.wh_base.specs.declared.head.Head.{Head}
-use Rattle.wh_base.specs.declared.value.Value.{Value}
 use Rattle.wh_base.specs.Heads.{columns_at}
 use Rattle.wh_base.specs.RowSet.{has, SameRows, IsSetOf, AreDistinct}
 use Rattle.wh_base.specs.Tables.{Table}
 use Rattle.wh_base.proofs.RowSets.{SameRows-append}
-use Rattle.wh_eval.specs.Lists.{HasDistinctRows}
 use Rattle.wh_expr.specs.declared.expr.Expr.{Expr}
 use Rattle.wh_expr.specs.Meaning.{meaning, tables as tables_of, uses_only}
 use Rattle.wh_plan.specs.Expressions.{complement_number, inverse_expr}
 use Rattle.wh_plan.specs.Laws.{AreUnder, InverseExprsMeanSteps}
-use Rattle.wh_schema.specs.declared.spec.Inclusion.{Inclusion}
 use Rattle.wh_schema.specs.declared.spec.Spec.{Spec}
 use Rattle.wh_schema.specs.Reconstruction.{given, reconstructed_rows, reconstruct_next}
-use Rattle.wh_schema.specs.Warehouse.{Row, State, Sources, columns_of, view_at, inclusion_at, table_of, covered}
+use Rattle.wh_schema.specs.Warehouse.{Row, State, inclusion_at}
 use Rattle.wh_laws.proofs.Reconstruction.{Agree, covered_same}
 use Rattle.wh_inverse.specs.Filled.{table_count, first_rows, AreFilled, step_rows}
 use Rattle.wh_inverse.specs.Inverse.{IsBelow, stored_below}

@@ -1,20 +1,16 @@
 -- What an inverse gives for each number, and by key.
-use Rattle.std.proofs.Common.{◌≡◌, ℕ, suc, zero, ◌+◌, ◌-◌, ◌<◌, ◌≤◌, Bool, true, false, cond, ◌&&◌, List, [], ◌∷◌, ◌++◌, map, filter, length, get_or, slice_get, nat_lt, Option, None, Some, refl, sym, ap, subst, ◌∙◌, arith, true≢false, inl, inr}
+use Rattle.std.proofs.Common.{◌≡◌, ℕ, ◌+◌, ◌-◌, ◌<◌, ◌≤◌, true, cond, ◌&&◌, List, [], ◌∷◌, filter, length, get_or, slice_get, Option, None, Some, sym, ap, subst, ◌∙◌, arith, true≢false}
 use Rattle.std.specs.Cmp.{first_so, second_so}
-use Rattle.std.proofs.lemmas.Option.{get_or_from_slice_get}
-use Rattle.wh_base.specs.declared.head.Head.{Head}
 use Rattle.wh_base.specs.declared.value.Value.{Value}
 use Rattle.wh_base.specs.Columns.{is_in, all_in, shared, cut}
-use Rattle.wh_base.specs.Heads.{columns_at}
 use Rattle.wh_base.specs.RowSet.{has, SameRows, IsSetOf}
 use Rattle.wh_base.specs.Tables.{Table, matching}
 use Rattle.wh_base.specs.Value.{row_eq}
 use Rattle.wh_base.specs.ValueLaws.{row_eq-Decides}
 use Rattle.wh_base.proofs.InOrder.{SameRows-in_order}
-use Rattle.wh_base.proofs.RowSets.{has-filter, has_itself, SameRows-filter}
+use Rattle.wh_base.proofs.RowSets.{has-filter, has_itself}
 use Rattle.wh_eval.specs.declared.relation.Relation.{Relation}
 use Rattle.wh_eval.specs.Evaluates.{Evaluates}
-use Rattle.wh_eval.specs.Relation.{table_of}
 use Rattle.wh_expr.specs.Narrowed.{narrowed, rows_with}
 use Rattle.wh_expr.specs.SameTable.{SameTable}
 use Rattle.wh_expr.proofs.NarrowedLemmas.{cut-cut, SameTable-narrowed}
@@ -24,13 +20,12 @@ use Rattle.wh_laws.specs.Laws.{LegalState}
 use Rattle.wh_schema.specs.declared.spec.Spec.{Spec}
 use Rattle.wh_schema.specs.Reconstruction.{reconstructed, SameTables}
 use Rattle.wh_schema.specs.Warehouse.{Row, State, columns_of, key_of, key_value, view_table, stored}
-use Rattle.wh_inverse.specs.Asked.{AreAsked, key_columns}
-use Rattle.wh_inverse.specs.Inverse.{IsBelow, stored_below, back, inverse_rows}
-use Rattle.wh_inverse.specs.Laws.{IsOneOf, IsRowWithKey, InverseGivesState}
+use Rattle.wh_inverse.specs.Inverse.{stored_below, back, inverse_rows}
+use Rattle.wh_inverse.specs.Laws.{IsOneOf, IsRowWithKey}
 use Rattle.wh_inverse.proofs.Tests.{lt-test, ge-test, or_left, all_in-from}
 use Rattle.wh_inverse.proofs.Assignments.{in-filter}
 use Rattle.wh_inverse.proofs.WalkLemmas.{filter_twice}
-use Rattle.wh_inverse.proofs.BelowLemmas.{back-relation, stored-at, relation-at}
+use Rattle.wh_inverse.proofs.BelowLemmas.{back-relation, stored-at}
 
 -- ---- the rows of a number
 
@@ -109,6 +104,7 @@ module _ (spec : Spec) (s : State) (rows : ℕ → List Row) (legal : LegalState
         ∙ ap (λ b. b && row_eq (key_value spec r x) key) (back-is-state r l x ∙ k)
         ∙ (row_eq-Decides (key_value spec r x) key).1 e) ∙ h x)
     row-with-key (Some x) h =
-        let both = sym (has-filter (λ y. row_eq (key_value spec r y) key) Given x) ∙ h in
-        (sym (back-is-state r l x) ∙ first_so (has Given x) (row_eq (key_value spec r x) key) both,
-        (row_eq-Decides (key_value spec r x) key).0 (second_so (has Given x) (row_eq (key_value spec r x) key) both))
+        let both = sym (has-filter (λ y. row_eq (key_value spec r y) key) Given x) ∙ h in (
+          sym (back-is-state r l x) ∙ first_so (has Given x) (row_eq (key_value spec r x) key) both,
+          (row_eq-Decides (key_value spec r x) key).0 (second_so (has Given x) (row_eq (key_value spec r x) key) both),
+        )

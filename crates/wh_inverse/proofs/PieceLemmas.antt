@@ -1,6 +1,6 @@
 -- Where the pieces of a cover come from, and what they give together.
-use Rattle.std.proofs.Common.{◌≡◌, ℕ, suc, ◌+◌, ◌-◌, ◌<◌, ◌≤◌, Bool, true, false, ◌&&◌, ◌||◌, List, [], ◌∷◌, ◌++◌, map, filter, length, get_or, slice_get, take, Contains, Some, refl, sym, ap, subst, ◌∙◌, arith, inl, inr, append_assoc}
-use Rattle.std.specs.List.{list_any, list_all, flat_map}
+use Rattle.std.proofs.Common.{◌≡◌, ℕ, suc, ◌+◌, ◌-◌, ◌<◌, ◌≤◌, Bool, true, false, ◌&&◌, ◌||◌, List, [], ◌∷◌, ◌++◌, map, filter, length, get_or, take, Contains, refl, sym, ap, subst, ◌∙◌, arith, inl, inr, append_assoc}
+use Rattle.std.specs.List.{list_any, flat_map}
 use Rattle.std.proofs.lemmas.Bool.{and_parts}
 use Rattle.std.proofs.lemmas.List.{take_more, append-nil}
 use Rattle.std.proofs.lemmas.List.Elements.{Contains-get_or, All-contains}
@@ -8,21 +8,20 @@ use Rattle.std.proofs.lemmas.Grind.{flat_map-append}
 use Rattle.wh_base.specs.declared.value.Value.{Value}
 use Rattle.wh_base.specs.Columns.{is_in, all_in, shared, cut}
 use Rattle.wh_base.specs.RowSet.{has, SameRows}
-use Rattle.wh_base.specs.Tables.{Table, project, join_all, matching}
+use Rattle.wh_base.specs.Tables.{Table, matching}
 use Rattle.wh_base.specs.Value.{row_eq}
 use Rattle.wh_base.proofs.RowSets.{has-append, has-filter, SameRows-append}
 use Rattle.wh_plan.specs.Held.{AreNumbers}
 use Rattle.wh_plan.specs.Plan.{relation_covers}
 use Rattle.wh_plan.proofs.HeldLemmas.{cover_numbers_held}
 use Rattle.wh_schema.specs.declared.piece.Piece.{Piece}
-use Rattle.wh_schema.specs.declared.piece.PieceSource.{PieceSource}
 use Rattle.wh_schema.specs.declared.piece.PieceSource.TheVariants as source
 use Rattle.wh_schema.specs.declared.spec.Spec.{Spec}
-use Rattle.wh_schema.specs.Warehouse.{Row, Sources, numbers, columns_of, view_at, inclusion_at, pieces, piece_base, piece_table, subsets, holds_all, is_cover, covers, pieces_at, cover_numbers, covered, joined_pieces}
+use Rattle.wh_schema.specs.Warehouse.{Row, Sources, numbers, columns_of, view_at, inclusion_at, pieces, piece_base, piece_table, subsets, holds_all, is_cover, pieces_at, covered, joined_pieces}
 use Rattle.wh_schema.proofs.CoverNumbers.{cover_numbers_are}
-use Rattle.wh_laws.proofs.Equality.{is_in_decides, all_in_when, shared_from}
+use Rattle.wh_laws.proofs.Equality.{all_in_when, shared_from}
 use Rattle.wh_laws.proofs.Lists.{filter_from, map_map}
-use Rattle.wh_laws.proofs.Pieces.{piece_from, FromView, FromInclusion}
+use Rattle.wh_laws.proofs.Pieces.{piece_from}
 use Rattle.wh_inverse.specs.Asked.{piece_numbered}
 use Rattle.wh_inverse.proofs.Tests.{any-map, all-named}
 use Rattle.wh_inverse.proofs.Assignments.{Fits, Fits-project}

@@ -1,15 +1,15 @@
 -- The places of the relations in the order of reconstruction, and that the relations given back are made from one another.
-use Rattle.std.proofs.Common.{◌≡◌, ℕ, suc, zero, ◌<◌, ◌≤◌, ◌+◌, Bool, true, false, cond, nat_eq, List, [], ◌∷◌, ◌++◌, map, length, get_or, set, replicate, fold, Contains, refl, sym, ◌∙◌, ap, subst, inl, inr, arith}
+use Rattle.std.proofs.Common.{◌≡◌, ℕ, suc, ◌<◌, Bool, true, false, cond, nat_eq, List, [], ◌∷◌, ◌++◌, length, get_or, set, replicate, fold, Contains, refl, sym, ◌∙◌, ap, subst, inl, inr, arith}
 use Rattle.std.proofs.lemmas.List.{get_or-set_same, get_or-set_other, length-set, length-replicate}
 use Rattle.std.proofs.lemmas.List.Elements.{Contains-append_left, Contains-append_cases}
-use Rattle.std.proofs.lemmas.Bool.{cases_eq, eq-eqb, eqb-true, eqb-false, cases_Bool, true≢false}
+use Rattle.std.proofs.lemmas.Bool.{cases_eq, eq-eqb, eqb-true, true≢false}
 use Rattle.wh_base.specs.RowSet.{has, SameRows}
 use Rattle.wh_base.proofs.RowSets.{SameRows-append}
 use Rattle.wh_schema.specs.declared.spec.Inclusion.{Inclusion}
 use Rattle.wh_schema.specs.declared.spec.Spec.{Spec}
 use Rattle.wh_schema.specs.Legality.{WellFormed}
 use Rattle.wh_schema.specs.Reconstruction.{take_next, is_ready, order, given, reconstructed_rows, reconstruct_next, reconstructed}
-use Rattle.wh_schema.specs.Warehouse.{Row, State, numbers, columns_of}
+use Rattle.wh_schema.specs.Warehouse.{Row, State, numbers}
 use Rattle.wh_laws.proofs.Lists.{Contains-nil, Contains-here, Contains-there, Contains-cases}
 use Rattle.wh_laws.proofs.Pieces.{numbers_from}
 use Rattle.wh_laws.proofs.Order.{step, iterate_keeps, Ready, ready_from, order_whole}
@@ -27,9 +27,9 @@ place_in (m ∷ ms) n h = by (nat_eq n m) refl (place_in ms n)
     by : (b : Bool) → nat_eq n m ≡ b → (Contains ms n → place ms n < length ms) → cond b 0 (suc (place ms n)) < suc (length ms)
     by true e more = omega arith
     by false e more = elim (Contains-cases m n ms h) [
-        | inl q ↦ absurd (true≢false (sym (eq-eqb n m (sym q)) ∙ e))
-        | inr k ↦ let less = more k in omega (arith, less)
-      ]
+      | inl q ↦ absurd (true≢false (sym (eq-eqb n m (sym q)) ∙ e))
+      | inr k ↦ let less = more k in omega (arith, less)
+    ]
 
 place_kept : (ms ns : List ℕ) (n : ℕ) → Contains ms n → place (ms ++ ns) n ≡ place ms n
 place_kept [] ns n h = absurd (Contains-nil n h)
@@ -38,9 +38,9 @@ place_kept (m ∷ ms) ns n h = by (nat_eq n m) refl (place_kept ms ns n)
     by : (b : Bool) → nat_eq n m ≡ b → (Contains ms n → place (ms ++ ns) n ≡ place ms n) → cond b 0 (suc (place (ms ++ ns) n)) ≡ cond b 0 (suc (place ms n))
     by true e more = refl
     by false e more = elim (Contains-cases m n ms h) [
-        | inl q ↦ absurd (true≢false (sym (eq-eqb n m (sym q)) ∙ e))
-        | inr k ↦ ap suc (more k)
-      ]
+      | inl q ↦ absurd (true≢false (sym (eq-eqb n m (sym q)) ∙ e))
+      | inr k ↦ ap suc (more k)
+    ]
 
 place_new : (ms : List ℕ) (n : ℕ) → (Contains ms n → ⊥) → place (ms ++ n ∷ []) n ≡ length ms
 place_new [] n h = ap (λ b. cond b 0 1) (eq-eqb n n refl)
@@ -83,15 +83,17 @@ module _ (spec : Spec) (tables : List (List Row)) where
         ];
         sources = λ c k h. elim (Contains-append_cases taken (q ∷ []) c.to h) [
           | inl i ↦
-              let old = s.sources c k i in
-              (Contains-append_left taken (q ∷ []) c.from old.0,
-              omega (arith, old.1, place_kept taken (q ∷ []) c.from old.0, place_kept taken (q ∷ []) c.to i))
+              let old = s.sources c k i in (
+                Contains-append_left taken (q ∷ []) c.from old.0,
+                omega (arith, old.1, place_kept taken (q ∷ []) c.from old.0, place_kept taken (q ∷ []) c.to i),
+              )
           | inr i ↦ elim (Contains-cases q c.to [] i) [
             | inl e ↦
                 let from = ready.sources c k (sym e) in
-                let new : place (taken ++ q ∷ []) c.to ≡ length taken = ap (place (taken ++ q ∷ [])) (sym e) ∙ place_new taken q ready.is_new in
-                (Contains-append_left taken (q ∷ []) c.from from,
-                omega (arith, new, place_kept taken (q ∷ []) c.from from, place_in taken c.from from))
+                let new : place (taken ++ q ∷ []) c.to ≡ length taken = ap (place (taken ++ q ∷ [])) (sym e) ∙ place_new taken q ready.is_new in (
+                  Contains-append_left taken (q ∷ []) c.from from,
+                  omega (arith, new, place_kept taken (q ∷ []) c.from from, place_in taken c.from from),
+                )
             | inr z ↦ absurd (Contains-nil c.to z)
           ]
         ];

@@ -1,7 +1,6 @@
 -- The numbers that the inverse expression of a relation names.
-use Rattle.std.proofs.Common.{◌≡◌, ℕ, ◌+◌, ◌<◌, Bool, true, false, cond, ◌&&◌, List, [], ◌∷◌, map, filter, fold, length, Contains, refl, sym, ap, subst, ◌∙◌, inl, inr}
+use Rattle.std.proofs.Common.{◌≡◌, ℕ, ◌+◌, ◌<◌, Bool, true, false, cond, ◌&&◌, List, [], ◌∷◌, map, fold, length, Contains, refl, sym, ap, subst, ◌∙◌, inl, inr}
 use Rattle.std.specs.Cmp.Lexicographic.{pointwise}
-use Rattle.std.proofs.lemmas.List.Elements.{Contains-get_or}
 use Rattle.wh_base.specs.Columns.{name_eq}
 use Rattle.wh_expr.specs.declared.expr.Expr.{Expr}
 use Rattle.wh_expr.specs.declared.expr.Expr.TheOpen.{Expr-F}
@@ -9,11 +8,11 @@ use Rattle.wh_expr.specs.declared.expr.Expr.TheFolds.{fold-roll-Expr}
 use Rattle.wh_expr.specs.declared.expr.Expr.TheVariants as expr
 use Rattle.wh_expr.specs.declared.expr.Renaming.{Renaming}
 use Rattle.wh_expr.specs.Meaning.{uses_only, uses_only_at}
-use Rattle.wh_plan.specs.Expressions.{join_exprs, left_column, is_change, renamings, renamed_expr, inclusion_expr, piece_expr, joined_names, cover_expr, complement_number, inverse_expr}
+use Rattle.wh_plan.specs.Expressions.{join_exprs, renamed_expr, piece_expr, joined_names, cover_expr, complement_number, inverse_expr}
 use Rattle.wh_schema.specs.declared.piece.Piece.{Piece}
 use Rattle.wh_schema.specs.declared.spec.Spec.{Spec}
-use Rattle.wh_schema.specs.Warehouse.{columns_of, inclusion_at, view_at, pieces, subsets, is_cover, covers}
-use Rattle.wh_laws.proofs.Lists.{Contains-here, Contains-there, Contains-cases, Contains-nil, filter_from, map_from}
+use Rattle.wh_schema.specs.Warehouse.{columns_of, inclusion_at, pieces, subsets, is_cover, covers}
+use Rattle.wh_laws.proofs.Lists.{Contains-here, Contains-there, filter_from, map_from}
 use Rattle.wh_laws.proofs.Pieces.{piece_from}
 use Rattle.wh_laws.proofs.Subsets.{subsets_members}
 use Rattle.wh_inverse.proofs.Tests.{and_so}

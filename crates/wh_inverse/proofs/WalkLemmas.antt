@@ -1,12 +1,12 @@
 -- A look-up goes through the pieces of a cover: one of them at its columns, the others by key.
-use Rattle.std.proofs.Common.{◌≡◌, ℕ, suc, ◌+◌, ◌<◌, Bool, true, false, cond, ◌&&◌, ◌||◌, List, [], ◌∷◌, ◌++◌, map, filter, length, take, get_or, refl, sym, ap, ◌∙◌, true≢false, inl, inr, ◌⊎◌, Contains}
+use Rattle.std.proofs.Common.{◌≡◌, ℕ, ◌+◌, ◌<◌, Bool, true, false, cond, ◌&&◌, ◌||◌, List, [], ◌∷◌, ◌++◌, map, filter, length, take, get_or, refl, sym, ap, ◌∙◌, true≢false, inl, inr, ◌⊎◌}
 use Rattle.std.specs.Cmp.{both_ways, first_so, second_so}
 use Rattle.std.specs.List.{list_any, list_all, flat_map}
 use Rattle.std.proofs.lemmas.List.{take_more, append-nil}
 use Rattle.std.proofs.lemmas.List.Folds.{list_all-append}
 use Rattle.std.proofs.lemmas.Grind.{flat_map-append}
 use Rattle.wh_base.specs.declared.value.Value.{Value}
-use Rattle.wh_base.specs.Columns.{name_eq, place_of, value_at, value_of, cut, is_in, all_in, shared, others}
+use Rattle.wh_base.specs.Columns.{cut, is_in, all_in, shared, others}
 use Rattle.wh_base.specs.RowSet.{has, SameRows}
 use Rattle.wh_base.specs.Tables.{Table, project, join, join_all, agree, joined, matching, with_columns}
 use Rattle.wh_base.specs.Value.{row_eq}

@@ -1,5 +1,5 @@
 -- What is asked of a relation: columns, and a value for each.
-use Rattle.std.specs.Prelude.{◌≡◌, ℕ, ◌<◌, ◌-◌, Bool, List, map, get_or, length, IsTrue, Contains}
+use Rattle.std.specs.Prelude.{◌≡◌, ℕ, ◌<◌, ◌-◌, Bool, List, map, get_or, length, IsTrue}
 use Rattle.std.specs.List.{list_any}
 use Rattle.wh_base.specs.declared.value.Value.{Value}
 use Rattle.wh_base.specs.Columns.{is_in, all_in, shared}

@@ -1,6 +1,5 @@
 -- What an inverse gives over the stored tables of a legal state. The laws are clauses of public functions.
 use Rattle.std.specs.Prelude.{◌≡◌, ℕ, ◌+◌, ◌<◌, List, [], length, get_or, true, false, Option, Some, None}
-use Rattle.wh_base.specs.declared.value.Value.{Value}
 use Rattle.wh_base.specs.RowSet.{has, SameRows}
 use Rattle.wh_laws.specs.Laws.{LegalState}
 use Rattle.wh_schema.specs.declared.spec.Spec.{Spec}

@@ -11,3 +11,4 @@ mod walk;
 
 pub use inverse::Inverse;
 pub use laws::inverse_gives_state;
+pub use planned::have_keys;

@@ -1,6 +1,7 @@
 //! What the plan of an inverse has for a relation.
 ghost use Rattle.std.specs.Prelude.{◌≡◌, ◌≤◌, ◌<◌, ◌+◌, nat_lt, length};
 ghost use Rattle.wh_covers.specs.Covers.{IsNumbered};
+ghost use Rattle.wh_inverse.specs.Inverse.{have_keys};
 ghost use Rattle.wh_plan.specs.Expressions.{complement_number, inverse_expr};
 ghost use Rattle.wh_plan.specs.Plan.{relation_covers};
 ghost use Rattle.wh_schema.specs.Warehouse.{pieces as pieces_of};
@@ -10,7 +11,7 @@ use wh_base::Places;
 use wh_covers::Piece;
 use wh_eval::Base;
 use wh_expr::Expr;
-use wh_schema::Spec;
+use wh_schema::{Relation, Spec};
 
 /// The pieces of a relation.
 pub(crate) fn pieces_of<'b, B: Base>(inverse: &'b Inverse<'_, B>, rel: u32) -> &'b [Piece]
@@ -59,4 +60,20 @@ pub(crate) fn is_relation(spec: &Spec, number: u32) -> bool
     ensures { result ≡ nat_lt number (length spec.now.relations) }
 {
     (number as usize) < spec.relations.len()
+}
+
+fn has_key(relation: &Relation) -> bool
+    ensures { result ≡ nat_lt 0 (length relation.now.key) }
+{
+    0 < relation.key.len()
+}
+
+/// Whether each relation has a column in its key, as an inverse asks. Without one nothing could be looked up by key.
+pub fn have_keys(spec: &Spec) -> bool
+    ensures { result ≡ have_keys spec.now }
+{
+    spec.relations
+        .as_slice()
+        .iter()
+        .all(|relation| has_key(relation))
 }

@@ -1,4 +1,4 @@
-use Rattle.std.proofs.Common.{◌≡◌, ℕ, List, [], length, get_or, ap, subst, ◌∙◌, sym, refl}
+use Rattle.std.proofs.Common.{◌≡◌, [], length, get_or, ap, subst, ◌∙◌, refl}
 use Rattle.wh_base.specs.Columns.{names_of, shared, cut}
 use Rattle.wh_base.specs.Tables.{Table}
 use Rattle.wh_eval.specs.Relation.{table_of}

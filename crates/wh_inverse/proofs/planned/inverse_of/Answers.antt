@@ -1,4 +1,3 @@
-use Rattle.std.proofs.Common.{◌∙◌}
 use Rattle.wh_inverse.proofs.PlanFacts.{exprs-within, exprs-are}
 use Rattle.wh_inverse.proofs.planned.inverse_of.Goals as goal
 

@@ -1,6 +1,4 @@
-use Rattle.std.proofs.Common.{sym, subst, arith}
-use Rattle.std.proofs.lemmas.Result.{IfOk-weaker}
-use Rattle.wh_base.specs.RowSet.{IsSetOf}
+use Rattle.std.proofs.Common.{arith}
 use Rattle.wh_inverse.proofs.FilledLemmas.{first-set}
 use Rattle.wh_inverse.proofs.relations.first_rows.Goals as goal
 

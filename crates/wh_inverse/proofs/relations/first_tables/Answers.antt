@@ -1,4 +1,4 @@
-use Rattle.std.proofs.Common.{◌≡◌, ℕ, ◌∙◌, arith}
+use Rattle.std.proofs.Common.{◌≡◌, arith}
 use Rattle.wh_inverse.specs.Filled.{table_count}
 use Rattle.wh_inverse.proofs.FilledLemmas.{first-filled}
 use Rattle.wh_inverse.proofs.relations.first_tables.Goals as goal

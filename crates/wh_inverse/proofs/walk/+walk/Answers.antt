@@ -1,13 +1,12 @@
-use Rattle.std.proofs.Common.{◌≡◌, true, ◌<◌, ◌≤◌, ℕ, List, [], ◌∷◌, ◌++◌, get_or, length, take, arith, map, ◌+◌, sym, ap, ◌∙◌, subst, Some, slice_get, unwrap_or, refl}
-use Rattle.std.specs.List.{flat_map, position}
-use Rattle.std.proofs.lemmas.List.{take_all, length-map}
+use Rattle.std.proofs.Common.{◌≡◌, true, ◌≤◌, ℕ, List, [], ◌++◌, get_or, length, take, arith, ◌+◌, sym, ap, ◌∙◌, subst}
+use Rattle.std.specs.List.{flat_map}
+use Rattle.std.proofs.lemmas.List.{take_all}
 use Rattle.std.proofs.lemmas.Option.{slice_get-get_or}
 use Rattle.std.proofs.lemmas.Result.{IfOk-weaker}
-use Rattle.wh_base.specs.declared.value.Attr.{Attr}
 use Rattle.wh_base.specs.declared.value.Value.{Value}
-use Rattle.wh_base.specs.Columns.{cut, all_in, shared, others, names_of}
+use Rattle.wh_base.specs.Columns.{cut, all_in, shared, others}
 use Rattle.wh_base.specs.RowSet.{has, SameRows, AreDistinct}
-use Rattle.wh_base.specs.Tables.{Table, join, project, joined, matching}
+use Rattle.wh_base.specs.Tables.{join, joined, matching}
 use Rattle.wh_base.proofs.FirstRows.{IsSetOf-first_seen}
 use Rattle.wh_eval.specs.declared.relation.Relation.{Relation}
 use Rattle.wh_eval.specs.Relation.{table_of}
@@ -15,16 +14,14 @@ use Rattle.wh_expr.specs.Narrowed.{narrowed}
 use Rattle.wh_expr.specs.SameTable.{SameTable}
 use Rattle.wh_plan.specs.Plan.{relation_covers}
 use Rattle.wh_schema.specs.declared.piece.Piece.{Piece}
-use Rattle.wh_schema.specs.Reconstruction.{order}
-use Rattle.wh_schema.specs.Warehouse.{Sources, columns_of, key_of, pieces, pieces_at, piece_table, joined_pieces}
+use Rattle.wh_schema.specs.Warehouse.{columns_of, pieces, pieces_at, piece_table, joined_pieces}
 use Rattle.wh_steps.specs.Steps.{Taken}
-use Rattle.wh_inverse.specs.Asked.{key_columns, piece_numbered, has_one}
+use Rattle.wh_inverse.specs.Asked.{piece_numbered, has_one}
 use Rattle.wh_inverse.specs.Inverse.{back, stored_below}
 use Rattle.wh_inverse.proofs.CoverLemmas.{Walked, Walked-first, Walked-join, Walked-skip, first-within, first-has}
-use Rattle.wh_inverse.proofs.FoundLemmas.{asked-first, first-is, number-low, number-high, number-in, number-same, piece-is, piece-in, cover-in, walk-ends, relation-found, asked-view, piece-of-view, left-within, left-earlier, left-asked, piece-of-inclusion, asked-key, has-key, length-cut}
+use Rattle.wh_inverse.proofs.FoundLemmas.{asked-first, first-is, number-low, number-high, number-in, number-same, piece-is, piece-in, walk-ends, relation-found, asked-view, piece-of-view, left-within, left-earlier, left-asked, piece-of-inclusion, asked-key, has-key, length-cut}
 use Rattle.wh_inverse.proofs.PieceLemmas.{Of, Of-fits, cover-covered, covers-more, view-within, inclusion-within}
 use Rattle.wh_inverse.proofs.BelowLemmas.{piece-has-key}
-use Rattle.wh_inverse.proofs.Places.{place}
 use Rattle.wh_inverse.proofs.WalkLemmas.{joined-more}
 use Rattle.wh_inverse.proofs.walk.+walk.Goals.{found_in_cover-then-place-at+in_ok-joined-2, found_in_cover-else-place-at}
 use Rattle.wh_inverse.proofs.walk.+walk.Goals as goal
@@ -121,9 +118,22 @@ found_in_cover-found_in_piece-requires g t c κs within =
     let one = first-has (Of spec src rel) cols (columns_of spec rel) cover at c.requires.asked.some c.requires.asked.within (cover-covered spec src rel cover c.requires.cover) chosen number (slice_get-get_or cover at 0 inside) in
     let own : c.in_ok-own.own ≡ shared first.attrs cols = c.in_ok-own.ensures ∙ (λ i. shared (c.as_slice-2.ensures i) (c.as_slice-3.ensures i)) in
     let known : c.in_ok-known.known ≡ cut cols c.in_ok-own.own c.args.vals.now = c.in_ok-known.ensures ∙ (λ i. cut (c.as_slice-4.ensures i) (c.as_slice-5.ensures i) c.args.vals.now) in
-    let P : Piece → Type 0 = λ p. has_one cols p.attrs ≡ true in
-    (omega (arith, c.decreases), (within.0, (within.1, (c.requires.relation, (piece-in ps first (piece_numbered ps number) is (number-in spec rel cover c.requires.cover at inside),
-    asked-first (columns_of spec rel) first.attrs cols c.args.vals.now c.requires.asked (subst P (sym is) one) c.in_ok-own.own c.in_ok-known.known own known)))))
+    let P : Piece → Type 0 = λ p. has_one cols p.attrs ≡ true in (
+      omega (arith, c.decreases),
+      (
+        within.0,
+        (
+          within.1,
+          (
+            c.requires.relation,
+            (
+              piece-in ps first (piece_numbered ps number) is (number-in spec rel cover c.requires.cover at inside),
+              asked-first (columns_of spec rel) first.attrs cols c.args.vals.now c.requires.asked (subst P (sym is) one) c.in_ok-own.own c.in_ok-known.known own known,
+            ),
+          ),
+        ),
+      ),
+    )
 
 -- src/walk.rt:131:5
 pub found_in_cover-loop-place-init : goal.found_in_cover-loop-place-init
@@ -298,9 +308,22 @@ joined_by_key-found_in_piece-requires g t c κs within =
     let s = c.args.inverse.now in
     let spec = s.plan.now.spec in
     let one : length c.in_ok-values.values ≡ length c.args.key.now =
-    ap length c.in_ok-values.ensures ∙ length-cut c.as_slice.result.now c.as_slice-in-loop-row.result.now c.row-item.result ∙ ap length c.as_slice-in-loop-row.ensures in
-    (omega (arith, c.decreases), (within.0, (within.1, (c.requires.relation, (c.requires.piece,
-    asked-key spec (g.B.Base.heads_of s.below.now) (g.B.Base.has_number s.below.now) s.over c.args.rel c.requires.relation c.args.piece.now c.requires.piece c.args.key.now c.requires.key c.in_ok-values.values one)))))
+    ap length c.in_ok-values.ensures ∙ length-cut c.as_slice.result.now c.as_slice-in-loop-row.result.now c.row-item.result ∙ ap length c.as_slice-in-loop-row.ensures in (
+      omega (arith, c.decreases),
+      (
+        within.0,
+        (
+          within.1,
+          (
+            c.requires.relation,
+            (
+              c.requires.piece,
+              asked-key spec (g.B.Base.heads_of s.below.now) (g.B.Base.has_number s.below.now) s.over c.args.rel c.requires.relation c.args.piece.now c.requires.piece c.args.key.now c.requires.key c.in_ok-values.values one,
+            ),
+          ),
+        ),
+      ),
+    )
 
 -- src/walk.rt:160:5
 pub joined_by_key-loop-row-preserved : goal.joined_by_key-loop-row-preserved

@@ -1,4 +1,4 @@
-use Rattle.std.proofs.Common.{◌≡◌, ◌+◌, length, ℕ, ap, ◌∙◌, arith, true}
+use Rattle.std.proofs.Common.{ap, ◌∙◌, arith}
 use Rattle.std.proofs.lemmas.Result.{IfOk-weaker}
 use Rattle.wh_base.specs.Columns.{all_in}
 use Rattle.wh_base.specs.Heads.{columns_at}

@@ -1,8 +1,7 @@
-use Rattle.std.proofs.Common.{◌≡◌, ◌+◌, length, ℕ, ap, ◌∙◌, arith, true}
+use Rattle.std.proofs.Common.{ap, ◌∙◌, arith}
 use Rattle.wh_base.specs.Columns.{all_in}
 use Rattle.wh_base.specs.Heads.{columns_at}
 use Rattle.wh_schema.specs.declared.spec.View.{View}
-use Rattle.wh_schema.specs.Warehouse.{view_at}
 use Rattle.wh_inverse.proofs.BelowLemmas.{below-held, view-at}
 use Rattle.wh_inverse.proofs.FoundLemmas.{view-found}
 use Rattle.wh_inverse.proofs.walk.found_in_view.Goals as goal

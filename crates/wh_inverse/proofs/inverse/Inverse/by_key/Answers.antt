@@ -1,4 +1,4 @@
-use Rattle.std.proofs.Common.{ℕ, List, [], get_or}
+use Rattle.std.proofs.Common.{[], get_or}
 use Rattle.wh_base.specs.Tables.{matching}
 use Rattle.wh_schema.specs.Reconstruction.{reconstructed}
 use Rattle.wh_schema.specs.Warehouse.{columns_of, key_of}

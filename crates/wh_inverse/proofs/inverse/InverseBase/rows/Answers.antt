@@ -1,4 +1,4 @@
-use Rattle.std.proofs.Common.{ℕ, ◌+◌, length, sym, ◌∙◌}
+use Rattle.std.proofs.Common.{◌+◌, length, sym, ◌∙◌}
 use Rattle.std.proofs.lemmas.Result.{IfOk-weaker}
 use Rattle.wh_inverse.proofs.GivenLemmas.{set-is, given-view}
 use Rattle.wh_inverse.proofs.Tests.{lt-from, ge-from}
