@@ -38,6 +38,10 @@ on_more more longer at (Some i) j k step e = step i e
 eqb_itself : (n : ℕ) → eqb n n ≡ true
 eqb_itself n = grind arith
 
+pub image_is : (r : Result Image ℕ) (j : Image) → some_image r ≡ Ok (Some j) → r ≡ Ok j
+image_is (Ok i) j e = let same : i ≡ j = cc in ap (λ (x : Image). Ok x) same
+image_is (Err at) j e = absurd cc
+
 module _ (deltas : List Delta) where
   one_more : (j : Image) → frame_of (change_body (j.seq + 1) deltas) ≡ Some (Change (j.seq + 1) deltas) → are_stored_deltas j.spec j.tables deltas ≡ true → replayed (change_body (j.seq + 1) deltas ∷ []) j ≡ Ok (image_with j deltas)
   one_more j read fits = rw (read, eqb_itself (j.seq + 1), fits) refl
@@ -50,10 +54,6 @@ module _ (deltas : List Delta) where
   replayed_more (body ∷ bodies) i j read fits e =
       on_more (replayed bodies) (replayed (bodies ++ change_body (j.seq + 1) deltas ∷ [])) i.end (after_frame i (end_behind i.end body) (frame_of body)) j (image_with j deltas)
       (λ x. replayed_more bodies x j read fits) e
-
-  image_is : (r : Result Image ℕ) (j : Image) → some_image r ≡ Ok (Some j) → r ≡ Ok j
-  image_is (Ok i) j e = let same : i ≡ j = cc in ap (λ (x : Image). Ok x) same
-  image_is (Err at) j e = absurd cc
 
   bodies_more : (bodies : List (List ℕ)) (j : Image) → frame_of (change_body (j.seq + 1) deltas) ≡ Some (Change (j.seq + 1) deltas) → are_stored_deltas j.spec j.tables deltas ≡ true
       → image_of_bodies bodies ≡ Ok (Some j) → image_of_bodies (bodies ++ change_body (j.seq + 1) deltas ∷ []) ≡ Ok (Some (image_with j deltas))
@@ -141,7 +141,7 @@ is_second (Ok (Some a)) (Ok None) active which e = absurd (apart (sym which ∙ 
 is_second (Ok (Some a)) (Ok (Some b)) active which e = second_later a b active which e
 
 -- what the active file alone comes to
-image_in : (w : Which) (active : Active) (a b : List ℕ) → active.which ≡ w → holding a b ≡ Ok (Some active) → file_image (file_in w a b) ≡ Ok (Some active.image)
+pub image_in : (w : Which) (active : Active) (a b : List ℕ) → active.which ≡ w → holding a b ≡ Ok (Some active) → file_image (file_in w a b) ≡ Ok (Some active.image)
 unfolding holding
 image_in First active a b which e = (is_first (file_image a) (file_image b) active which e).image
 image_in Second active a b which e = (is_second (file_image a) (file_image b) active which e).image

@@ -1,4 +1,5 @@
 mod CommitLemmas
 pub mod FirstByte
+mod SoundFiles
 mod TableSteps
 pub mod TextualLemmas

@@ -1,6 +1,7 @@
 //! The store: a warehouse in memory beside the two files that keep it.
 #![tactic(auto)]
 
+mod change_laws;
 mod changes;
 mod commit;
 mod creation;
@@ -10,6 +11,7 @@ mod opening;
 mod ready;
 mod warehouse;
 
+pub use change_laws::active_file_is_a_journal;
 pub use creation::create;
 pub use emptiness::both_empty;
 pub use fault::StoreFault;
