@@ -1,3 +1,4 @@
+mod Allowed
 mod CommitLemmas
 pub mod FirstByte
 mod SoundFiles

@@ -11,7 +11,7 @@ mod opening;
 mod ready;
 mod warehouse;
 
-pub use change_laws::active_file_is_a_journal;
+pub use change_laws::{active_file_is_a_journal, ready_deltas_may_follow};
 pub use creation::create;
 pub use emptiness::both_empty;
 pub use fault::StoreFault;
