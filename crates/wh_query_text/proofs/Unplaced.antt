@@ -219,9 +219,11 @@ module _ (number : List ℕ → ℕ) where
   inner_made zero = (λ i. refl, λ i. refl)
   inner_made (suc d) =
       let e = inner_made d in
-      let f = factor_of_made d (g.inner d).0 (g.inner d).1 (inner d).0 (inner d).1 e.0 e.1 in
-      (f.reads, (chain_made sum_of (g.chain product_of (g.factor_of d (g.inner d).0 (g.inner d).1)) (chain product_of (factor_of d (inner d).0 (inner d).1))
-      (chain_made product_of (g.factor_of d (g.inner d).0 (g.inner d).1) (factor_of d (inner d).0 (inner d).1) f)).reads)
+      let f = factor_of_made d (g.inner d).0 (g.inner d).1 (inner d).0 (inner d).1 e.0 e.1 in (
+        f.reads,
+        (chain_made sum_of (g.chain product_of (g.factor_of d (g.inner d).0 (g.inner d).1)) (chain product_of (factor_of d (inner d).0 (inner d).1))
+            (chain_made product_of (g.factor_of d (g.inner d).0 (g.inner d).1) (factor_of d (inner d).0 (inner d).1) f)).reads,
+      )
 
   pub factor_made : (d : ℕ) → PartMade h (g.factor d) (factor d)
   unfolding g.factor factor

@@ -93,20 +93,36 @@ fn spec(alloc: Global) -> Result<Spec, NoMemory> {
     })
 }
 
-fn line_of(alloc: Global, text: &[u8], spec: &Spec) -> Result<ByteText, NoMemory> {
-    let mut line = ByteText::new(alloc);
-    match parse_query(alloc, text, spec) {
-        Ok(query) => {
-            print_expr(alloc, &query.expr, &heads(alloc, spec)?, &mut line)?;
-            line.append(b":")?;
-            for attr in query.attrs.as_slice() {
-                line.append(b" ")?;
-                line.append(attr.name.as_slice())?;
-            }
-        }
-        Err(fault) => put_query_fault(alloc, &fault, &mut line)?,
+fn put_attrs(line: &mut ByteText, attrs: &[Attr]) -> Result<(), NoMemory> {
+    for attr in attrs {
+        line.append(b" ")?;
+        line.append(attr.name.as_slice())?;
     }
+    Ok(())
+}
+
+fn printed(alloc: Global, query: &Query, spec: &Spec) -> Result<ByteText, NoMemory> {
+    let mut line = ByteText::new(alloc);
+    print_expr(alloc, &query.expr, &heads(alloc, spec)?, &mut line)?;
+    line.append(b":")?;
+    put_attrs(&mut line, query.attrs.as_slice())?;
     Ok(line)
+}
+
+fn refused(alloc: Global, fault: &QueryFault) -> Result<ByteText, NoMemory> {
+    let mut line = ByteText::new(alloc);
+    put_query_fault(alloc, fault, &mut line)?;
+    Ok(line)
+}
+
+fn line_of(alloc: Global, text: &[u8], spec: &Spec) -> Result<ByteText, NoMemory> {
+    if spec.relations.len() > 64 || spec.views.len() > 64 {
+        return Ok(ByteText::new(alloc));
+    }
+    match parse_query(alloc, text, spec) {
+        Ok(query) => printed(alloc, &query, spec),
+        Err(fault) => refused(alloc, &fault),
+    }
 }
 
 #[test]
@@ -163,7 +179,12 @@ fn fault_lines(rt: HostRuntime) -> Result<(), Fail> {
     for case in &cases {
         let text = text_of(rt.alloc(), case)?;
         let line = line_of(rt.alloc(), text.as_bytes(), &spec)?;
-        assert!(rt; line.as_bytes() == case.line, "{:?} has {:?}", case.line, line);
+        assert!(rt;
+            line.as_bytes() == case.line,
+            "{:?} has {:?}",
+            case.line,
+            line
+        );
     }
     Ok(())
 }
@@ -177,24 +198,41 @@ fn queries(rt: HostRuntime) -> Result<(), Fail> {
         plain(b"R union V", b"R union V: k a"),
         plain(b"R minus V union R", b"R minus V union R: k a"),
         plain(b"R minus (V union R)", b"R minus (V union R): k a"),
-        plain(b"((R)) join S minus(R join S)", b"R join S minus R join S: k a b"),
+        plain(
+            b"((R)) join S minus(R join S)",
+            b"R join S minus R join S: k a b",
+        ),
         plain(b"R join (S join V)", b"R join (S join V): k a b"),
         plain(b"(R minus V) join S", b"(R minus V) join S: k a b"),
         plain(b"project (b) S join R", b"project (b) S join R: b k a"),
         plain(b"project (b) (R join S)", b"project (b) (R join S): b"),
         // Names change at once, and so two of them may change places.
-        plain(b"rename (k to a, a to k) R", b"rename (k to a, a to k) R: a k"),
+        plain(
+            b"rename (k to a, a to k) R",
+            b"rename (k to a, a to k) R: a k",
+        ),
         plain(
             b"select (not(k = -007 or a <> k)) R",
             b"select (not (k = -7 or a <> k)) R: k a",
         ),
-        repeated(b"project (k)", b"(project (k) ", 1, b"R)", b"project (k) project (k) R: k"),
+        repeated(
+            b"project (k)",
+            b"(project (k) ",
+            1,
+            b"R)",
+            b"project (k) project (k) R: k",
+        ),
     ];
     let spec = spec(rt.alloc())?;
     for case in &cases {
         let text = text_of(rt.alloc(), case)?;
         let line = line_of(rt.alloc(), text.as_bytes(), &spec)?;
-        assert!(rt; line.as_bytes() == case.line, "{:?} has {:?}", case.line, line);
+        assert!(rt;
+            line.as_bytes() == case.line,
+            "{:?} has {:?}",
+            case.line,
+            line
+        );
     }
     Ok(())
 }
