@@ -3,4 +3,5 @@ pub mod Follows
 pub mod Numbered
 pub mod Shown
 pub mod Shows
+pub mod SpecRules
 pub mod Texts

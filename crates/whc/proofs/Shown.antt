@@ -5,6 +5,7 @@ use Rattle.wh_csv.specs.declared.fault.CsvFault.TheVariants as csv
 use Rattle.wh_csv.specs.Dump.{dump_of}
 use Rattle.wh_io.specs.Files.{Held}
 use Rattle.wh_io.specs.Sink.{gained}
+use Rattle.wh_load.specs.Load.{first_over}
 use Rattle.wh_plan.specs.declared.plan.PlanFault.{PlanFault}
 use Rattle.wh_plan.specs.declared.plan.PlanFault.TheVariants as plan
 use Rattle.wh_plan.specs.Plan.{too_many}
@@ -12,7 +13,7 @@ use Rattle.wh_schema.specs.declared.broken.Broken.{Broken}
 use Rattle.wh_schema.specs.declared.spec.Relation.{Relation}
 use Rattle.wh_schema.specs.declared.spec.Spec.{Spec}
 use Rattle.wh_schema.specs.Constraints.{broken}
-use Rattle.wh_schema.specs.Warehouse.{Row, State}
+use Rattle.wh_schema.specs.Warehouse.{Row, State, stored}
 use Rattle.wh_spec_text.specs.declared.fault.SpecTextFault.{SpecTextFault}
 use Rattle.wh_spec_text.specs.SpecTexts.{spec_of_text}
 use Rattle.whc.specs.declared.show.Shown.{Shown}
@@ -26,7 +27,7 @@ use Rattle.whc.specs.Inputs.{and_then, file_of, parsed, planned, spec_in, spec_f
 use Rattle.whc.specs.Laws.{Sources, ShowsStored, TellsBroken, show_words}
 use Rattle.whc.specs.Outcome.{World, texts, stays, image}
 use Rattle.whc.specs.Run.{Scene, Reports, Answers}
-use Rattle.whc.specs.Show.{table_texts, tables_unless, tables_of, shown_of}
+use Rattle.whc.specs.Show.{table_texts, tables_within, tables_unless, tables_of, shown_of}
 use Rattle.whc.specs.Stop.{status_of, unwritten, line_of, WritesLine}
 use Rattle.whc.proofs.Follows.{ends_of}
 use Rattle.whc.proofs.Texts.{joined, all_texts}
@@ -113,7 +114,11 @@ module _ (held : Held) (spec_name dir : List ℕ) where
     stored_of sources s is prints = by_broken (broken sources.spec sources.state) refl (subst Prints (sym is) prints) is
       where
         by_broken : (first : Option Broken) → broken sources.spec sources.state ≡ first → Prints (tables_unless sources.spec sources.state first) → tables_unless sources.spec sources.state first ≡ Ok s → ShowsStored held spec_name dir before after
-        by_broken None legal printed same = record { sources = sources; legal = legal; printed = printed }
+        by_broken None legal printed same = by_over (first_over (stored sources.spec sources.state)) refl printed same
+          where
+            by_over : (over : Option ℕ) → first_over (stored sources.spec sources.state) ≡ over → Prints (tables_within sources.spec sources.state over) → tables_within sources.spec sources.state over ≡ Ok s → ShowsStored held spec_name dir before after
+            by_over None small shown_at done_at = record { sources = sources; legal = legal; small = small; printed = shown_at }
+            by_over (Some k) small shown_at done_at = absurd (cc (done_at))
         by_broken (Some b) legal printed same = absurd (cc (same))
 
     shows : (found : Result Shown Stop) (answer : Status) → shown_of held spec_name dir ≡ found → (stays start (and_then found printing)).finish ≡ Ok answer → after ≡ gained before (texts (stays start (and_then found printing)).pieces)
@@ -126,11 +131,15 @@ module _ (held : Held) (spec_name dir : List ℕ) where
     Told (Ok value) = Unit {0}
     Told (Err stop) = after ≡ gained before (line_of stop)
 
-    broken_of : (sources : Sources held spec_name dir) (stop : Stop) → tables_of sources.spec sources.state ≡ Err stop → Told {T = Shown} (Err stop) → TellsBroken held spec_name dir before after
-    broken_of sources stop is told = by_broken (broken sources.spec sources.state) refl (subst (λ (r : Result Shown Stop). Told r) (sym is) told) is
+    broken_of : (sources : Sources held spec_name dir) (stop : Stop) → is_refusal_stop stop ≡ true → tables_of sources.spec sources.state ≡ Err stop → Told {T = Shown} (Err stop) → TellsBroken held spec_name dir before after
+    broken_of sources stop decided is told = by_broken (broken sources.spec sources.state) refl (subst (λ (r : Result Shown Stop). Told r) (sym is) told) is
       where
         by_broken : (first : Option Broken) → broken sources.spec sources.state ≡ first → Told (tables_unless sources.spec sources.state first) → tables_unless sources.spec sources.state first ≡ Err stop → TellsBroken held spec_name dir before after
-        by_broken None illegal told_at same = absurd (cc (same))
+        by_broken None illegal told_at same = by_over (first_over (stored sources.spec sources.state)) same
+          where
+            by_over : (over : Option ℕ) → tables_within sources.spec sources.state over ≡ Err stop → TellsBroken held spec_name dir before after
+            by_over None done_at = absurd (cc (done_at))
+            by_over (Some k) done_at = let also = subst (λ (r : Result Shown Stop). refuses r ≡ true) (sym done_at) decided in absurd (cc (also))
         by_broken (Some b) illegal told_at same = record { sources = sources; first = b; illegal = illegal; told = told_at }
 
     tells : (found : Result Shown Stop) (words : List ℕ) → shown_of held spec_name dir ≡ found → (stays start (and_then found printing)).finish ≡ Err (Refused words) → Told {T = Status} (Err (Refused words)) → TellsBroken held spec_name dir before after
@@ -138,7 +147,7 @@ module _ (held : Held) (spec_name dir : List ℕ) where
     tells (Err stop) words is finish told =
         let decided : is_refusal_stop stop ≡ true = subst (λ (r : Result Status Stop). refuses r ≡ true) (sym finish) refl in
         let at = sources_of (Err stop) decided is in
-        broken_of at.0 stop at.1 (subst (λ (r : Result Status Stop). Told r) (sym finish) told)
+        broken_of at.0 stop decided at.1 (subst (λ (r : Result Status Stop). Told r) (sym finish) told)
 
 -- ---- the status
 

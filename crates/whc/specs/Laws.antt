@@ -5,6 +5,7 @@ use Rattle.wh_base.specs.Lines.{line}
 use Rattle.wh_io.specs.Causes.{IsCounted, Rose}
 use Rattle.wh_io.specs.Files.{Held}
 use Rattle.wh_io.specs.Sink.{gained, GainsPrefix}
+use Rattle.wh_load.specs.Load.{first_over}
 use Rattle.wh_schema.specs.declared.broken.Broken.{Broken}
 use Rattle.wh_schema.specs.declared.spec.Spec.{Spec}
 use Rattle.wh_schema.specs.Constraints.{broken}
@@ -129,10 +130,11 @@ pub record Sources (held : Held) (spec_name dir : List ℕ) : Type 0 where
   pub spec_is : spec_file held spec_name ≡ Ok spec
   pub state_is : dump_files held dir [] spec.relations ≡ Ok state
 
--- they break no constraint, and their stored tables were printed
+-- they break no constraint, no stored table has too many rows, and the tables were printed
 pub record ShowsStored (held : Held) (spec_name dir : List ℕ) (before after : Option (List ℕ)) : Type 0 where
   pub sources : Sources held spec_name dir
   pub legal : broken sources.spec sources.state ≡ None
+  pub small : first_over (stored sources.spec sources.state) ≡ None
   pub printed : after ≡ gained before (flat_map (λ (text : List ℕ). text) (table_texts (shown sources.spec (stored sources.spec sources.state))))
 
 -- After Ok `show SPEC DIR` has printed the stored tables of the sources.

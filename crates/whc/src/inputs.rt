@@ -6,6 +6,7 @@ ghost use Rattle.wh_covers.specs.Covers.{IsNumbered};
 ghost use Rattle.wh_io.specs.Causes.{IsCounted};
 ghost use Rattle.wh_load.specs.Load.{HasDistinctRows};
 ghost use Rattle.wh_plan.specs.Plan.{IsPlan, too_many};
+ghost use Rattle.wh_schema.specs.Legality.{WellFormed};
 ghost use Rattle.wh_spec_text.specs.SpecTexts.{spec_of_text};
 ghost use Rattle.whc.specs.Inputs.{and_then, file_of, parsed, planned, spec_in, spec_file, dump_name, dump_in, dump_file, dump_files, IsNextDump};
 ghost use Rattle.whc.specs.Words.{pieces_words};
@@ -47,6 +48,7 @@ pub fn read_plan<F: Files>(alloc: Global, files: &mut F, name: &str) -> Result<P
     ensures answer { Settles (option_map (λ held. spec_file held name.now) (F.held files.old)) (plan_spec result) }
     ensures numbered { IfOk result (λ plan. IsNumbered plan.spec) }
     ensures plan { IfOk result IsPlan }
+    ensures rules { IfOk result (λ plan. WellFormed plan.spec) }
     ensures names { NamesRead (λ file. file ≡ name.now) result }
     ensures same { F.held files.new ≡ F.held files.old }
     ensures blames { BlamesFiles result }
@@ -60,6 +62,7 @@ fn plan_in(alloc: Global, text: &Bytes) -> Result<Plan, Stop>
     ensures answer { Settles (Some (spec_in text.now)) (plan_spec result) }
     ensures numbered { IfOk result (λ plan. IsNumbered plan.spec) }
     ensures plan { IfOk result IsPlan }
+    ensures rules { IfOk result (λ plan. WellFormed plan.spec) }
     ensures blames { BlamesNone result }
 {
     let spec = parse(alloc, text)?;
@@ -69,6 +72,7 @@ fn plan_in(alloc: Global, text: &Bytes) -> Result<Plan, Stop>
 fn parse(alloc: Global, text: &Bytes) -> Result<Spec, Stop>
     ensures answer { Settles (Some (parsed text.now (spec_of_text text.now))) result }
     ensures numbered { IfOk result IsNumbered }
+    ensures rules { IfOk result WellFormed }
     ensures blames { BlamesNone result }
 {
     match parse_spec(alloc, text.as_slice()) {
@@ -79,10 +83,12 @@ fn parse(alloc: Global, text: &Bytes) -> Result<Spec, Stop>
 }
 
 fn plan_of(alloc: Global, spec: Spec) -> Result<Plan, Stop>
-    requires { IsNumbered spec }
+    requires numbered { IsNumbered spec }
+    requires rules { WellFormed spec }
     ensures answer { Settles (Some (planned spec (too_many spec))) (plan_spec result) }
     ensures numbered { IfOk result (λ plan. IsNumbered plan.spec) }
     ensures plan { IfOk result IsPlan }
+    ensures rules { IfOk result (λ plan. WellFormed plan.spec) }
     ensures blames { BlamesNone result }
 {
     let names = relation_names(alloc, &spec)?;

@@ -1,5 +1,5 @@
 // The top call.
-ghost use Rattle.std.specs.Prelude.{◌≡◌};
+ghost use Rattle.std.specs.Prelude.{◌≡◌, ◌≤◌};
 ghost use Rattle.whc.specs.Commands.{words_of};
 ghost use Rattle.whc.specs.Run.{Answers};
 
@@ -13,8 +13,8 @@ use wh_steps::{Ledger, Steps};
 /// Does what the words say, over what it is handed, and tells how it ended.
 ///
 /// The words are those behind the store's folder. What a command prints goes to `out`, and the one line of a
-/// refusal or a fault to `err`. `first` and `second` are the two files of the store, and `steps` counts the
-/// look-ups; no command that is built so far touches either.
+/// refusal or a fault to `err`. `first` and `second` are the two files of the store, which no command that is built
+/// so far touches, and `steps` counts the look-ups.
 pub fn run<F: Files, O: Sink, E: Sink, D: Disk, L: Ledger>(
     alloc: Global,
     words: &[String],
@@ -45,12 +45,12 @@ pub fn run<F: Files, O: Sink, E: Sink, D: Disk, L: Ledger>(
         result }
     ensures files { F.held files.new ≡ F.held files.old }
     ensures disks { (first.new ≡ first.old) × (second.new ≡ second.old) }
-    ensures steps { steps.new ≡ steps.old }
+    ensures probes { steps.old.probes ≤ steps.new.probes }
+    ensures scans { steps.old.scans ≤ steps.new.scans }
 {
     let _ = first;
     let _ = second;
-    let _ = steps;
-    match perform(alloc, words, files, out) {
+    match perform(alloc, words, files, out, steps) {
         Ok(status) => status,
         Err(stop) => tell(&stop, err),
     }

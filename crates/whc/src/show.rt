@@ -7,6 +7,7 @@ ghost use Rattle.wh_covers.specs.Covers.{IsNumbered};
 ghost use Rattle.wh_io.specs.Causes.{IsCounted};
 ghost use Rattle.wh_load.specs.Load.{HasDistinctRows};
 ghost use Rattle.wh_plan.specs.Plan.{IsPlan};
+ghost use Rattle.wh_schema.specs.Legality.{WellFormed};
 ghost use Rattle.whc.specs.Outcome.{stays};
 ghost use Rattle.whc.specs.Ends.{Ends};
 ghost use Rattle.whc.specs.Inputs.{IsNextFile};
@@ -26,6 +27,7 @@ use wh_io::{Files, Sink, write_all};
 use wh_load::{LoadFault, load_rows};
 use wh_plan::Plan;
 use wh_schema::Spec;
+use wh_steps::{Ledger, Steps};
 
 /// A specification with its stored tables: the views, then the complements.
 #[derive(Drop)]
@@ -35,12 +37,13 @@ pub struct Shown {
 }
 
 /// Prints the stored tables of the dumps in a folder.
-pub fn show<F: Files, O: Sink>(
+pub fn show<F: Files, O: Sink, L: Ledger>(
     alloc: Global,
     spec_name: &str,
     dir: &str,
     files: &mut F,
     out: &mut O,
+    steps: &mut Steps<L>,
 ) -> Result<Status, Stop>
     ensures ends { IfSome (F.held files.old) (λ held. (start : _) →
         Ends (stays start (show_texts held spec_name.now dir.now)) (λ state. state ≡ start) (λ _ _. ⊥) (O.taken out.old) (O.taken out.new) result) }
@@ -51,40 +54,53 @@ pub fn show<F: Files, O: Sink>(
     ensures disk { is_disk_fault result ≡ false }
     ensures usage { is_usage result ≡ false }
     ensures done { IfOk result (λ status. status ≡ Status.Ok) }
+    ensures probes { steps.old.probes ≤ steps.new.probes }
+    ensures scans { steps.old.scans ≤ steps.new.scans }
 {
-    match prepare(alloc, spec_name, dir, files) {
+    match prepare(alloc, spec_name, dir, files, steps) {
         Ok(shown) => write_tables(alloc, &shown, out),
         Err(stop) => Err(stop),
     }
 }
 
 // Reads the specification and the dumps, and computes the stored tables.
-fn prepare<F: Files>(
+fn prepare<F: Files, L: Ledger>(
     alloc: Global,
     spec_name: &str,
     dir: &str,
     files: &mut F,
+    steps: &mut Steps<L>,
 ) -> Result<Shown, Stop>
     ensures answer { Settles (option_map (λ held. shown_of held spec_name.now dir.now) (F.held files.old)) result }
     ensures names { IfSome (F.held files.old) (λ held. NamesRead (IsNextFile held spec_name.now dir.now) result) }
     ensures same { F.held files.new ≡ F.held files.old }
     ensures blames { BlamesFiles result }
     ensures cause { IsCounted (is_read_fault result) (F.faults files.old) (F.faults files.new) }
+    ensures probes { steps.old.probes ≤ steps.new.probes }
+    ensures scans { steps.old.scans ≤ steps.new.scans }
 {
     let plan = read_plan(alloc, files, spec_name)?;
     let state = read_dumps(alloc, files, dir, plan.spec.relations.as_slice())?;
-    compute(alloc, plan, &state)
+    compute(alloc, plan, &state, steps)
 }
 
-// The stored tables, where the state breaks no constraint.
-fn compute(alloc: Global, plan: Plan, state: &State) -> Result<Shown, Stop>
+// The stored tables, where the state breaks no constraint and none of them has too many rows.
+fn compute<L: Ledger>(
+    alloc: Global,
+    plan: Plan,
+    state: &State,
+    steps: &mut Steps<L>,
+) -> Result<Shown, Stop>
     requires numbered { IsNumbered plan.spec }
     requires plan { IsPlan plan }
+    requires rules { WellFormed plan.spec }
     requires distinct { HasDistinctRows state.now }
     ensures answer { Settles (Some (tables_of plan.spec state.now)) result }
     ensures blames { BlamesNone result }
+    ensures probes { steps.old.probes ≤ steps.new.probes }
+    ensures scans { steps.old.scans ≤ steps.new.scans }
 {
-    match load_rows(alloc, &plan, state) {
+    match load_rows(alloc, &plan, state, steps) {
         Ok(tables) => Ok(Shown {
             spec: plan.spec,
             tables,
@@ -92,6 +108,9 @@ fn compute(alloc: Global, plan: Plan, state: &State) -> Result<Shown, Stop>
         Err(LoadFault::Broken(broken)) => Err(Stop::Refused(words::broken(
             alloc, &plan.spec, &broken,
         )?)),
+        Err(LoadFault::RowLimit { table }) => {
+            Err(Stop::Limit(words::row_limit(alloc, &plan.spec, table)?))
+        }
         Err(LoadFault::NoMemory) => Err(Stop::NoMemory),
     }
 }

@@ -3,7 +3,7 @@ ghost use Rattle.std.specs.Prelude.{◌≡◌, ◌++◌, IfOk, OnOk, codes, deci
 ghost use Rattle.wh_csv.specs.Words.{cause_words};
 ghost use Rattle.wh_schema.specs.Warehouse.{no_inclusion, relation_at, inclusion_at};
 ghost use Rattle.wh_spec_text.specs.SpecTexts.{fault_words};
-ghost use Rattle.whc.specs.Words.{list_words, columns_words, number_words, value_words, key_words, inclusion_words, broken_words, dump_words, pieces_words};
+ghost use Rattle.whc.specs.Words.{list_words, columns_words, number_words, value_words, key_words, inclusion_words, broken_words, dump_words, pieces_words, stored_name, rows_words};
 
 use itoa::Buffer;
 use std::alloc::Global;
@@ -50,6 +50,35 @@ pub fn too_many_pieces(alloc: Global, name: &Name, count: u32) -> Result<Bytes, 
     put_number(&mut out, count as u64)?;
     out.append(b" pieces")?;
     Ok(out.into_bytes())
+}
+
+/// `rows of NAME`, of a stored table with too many.
+pub fn row_limit(alloc: Global, spec: &Spec, table: u32) -> Result<Bytes, NoMemory>
+    ensures { IfOk result (λ words. words ≡ rows_words spec.now table) }
+{
+    let mut out = ByteText::from_slice(alloc, b"rows of ")?;
+    put_stored_name(&mut out, spec, table as usize)?;
+    Ok(out.into_bytes())
+}
+
+fn put_stored_name(out: &mut ByteText, spec: &Spec, table: usize) -> Result<(), NoMemory>
+    ensures { OnOk result (out.new.bytes ≡ out.old.bytes ++ stored_name spec.now table) }
+{
+    match spec.views.get(table) {
+        Some(view) => out.append(view.name.as_slice()),
+        None => put_complement_name(out, spec, table.saturating_sub(spec.views.len())),
+    }
+}
+
+#[tactic(auto, using(crate::proofs::Numbered::get_or_none))]
+fn put_complement_name(out: &mut ByteText, spec: &Spec, relation: usize) -> Result<(), NoMemory>
+    ensures { OnOk result (out.new.bytes ≡ out.old.bytes ++ codes "C_" ++ (relation_at spec.now relation).name) }
+{
+    out.append(b"C_")?;
+    match spec.relations.get(relation) {
+        Some(found) => out.append(found.name.as_slice()),
+        None => out.append(b""),
+    }
 }
 
 // A relation's name with some columns in parentheses.
