@@ -1,16 +1,14 @@
 -- What is read of a text has words, and its printed form has no more parentheses open at once than the text.
-use Rattle.std.proofs.Common.{◌≡◌, ◌<◌, ◌≤◌, ℕ, zero, suc, ◌+◌, ◌-◌, Bool, true, false, ◌&&◌, cond, List, [], ◌∷◌, length, Option, Some, None, Result, Ok, Err, refl, sym, ap, subst, ◌∙◌, arith}
+use Rattle.std.proofs.Common.{◌≡◌, ◌<◌, ◌≤◌, ℕ, zero, suc, ◌+◌, ◌-◌, Bool, true, false, ◌&&◌, List, length, Option, Some, Result, Ok, Err, refl, sym, ap, subst, ◌∙◌, arith}
 use Rattle.std.specs.Prelude.{nat_lt}
-use Rattle.std.specs.List.{AllByRecursion}
 use Rattle.std.proofs.lemmas.Bool.{lt-ltb, ltb-true, and_parts}
 use Rattle.wh_base.specs.declared.cond.Cond.{Cond}
-use Rattle.wh_base.specs.declared.cond.Cond.TheVariants.{Cmp}
 use Rattle.wh_expr.specs.declared.expr.Renaming.{Renaming}
 use Rattle.wh_lex.specs.declared.token.Token.{Token}
 use Rattle.wh_grammar.specs.declared.fault.TextFault.{TextFault}
 use Rattle.wh_grammar.specs.declared.symbol.Symbol.{Symbol}
 use Rattle.wh_grammar.specs.declared.symbol.Symbol.TheVariants as s
-use Rattle.wh_grammar.specs.Grammar.{Input, Outcome, Parser, Part, ◌>>=◌, pure, fail, next, place, start_of, token, valued, name, starts, enclosed, ◌or◌, each, separated, whole}
+use Rattle.wh_grammar.specs.Grammar.{Input, Outcome, Parser, Part, ◌>>=◌, pure, next, place, start_of, token, valued, name, starts, enclosed, ◌or◌, each, separated}
 use Rattle.wh_grammar.specs.Nesting.{parens_after}
 use Rattle.wh_grammar.specs.Conditions as conditions
 use Rattle.wh_grammar.specs.Printable.{IsName, IsTextual, compares, negates, joins, parts}

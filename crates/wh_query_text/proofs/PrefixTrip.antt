@@ -1,10 +1,9 @@
 -- The text of a prefix, wherever it stands, is read as the prefix.
-use Rattle.std.proofs.Common.{◌≡◌, ◌≢◌, ◌<◌, ◌≤◌, ℕ, ◌+◌, ◌*◌, Bool, true, false, not, ◌&&◌, List, [], ◌∷◌, ◌++◌, length, map, Ok, Err, codes, refl, sym, ap, subst, ◌∙◌, append_assoc, arith}
+use Rattle.std.proofs.Common.{◌≡◌, ◌≢◌, ◌<◌, ◌≤◌, ℕ, ◌+◌, ◌*◌, true, false, List, [], ◌∷◌, ◌++◌, length, Ok, Err, codes, refl, sym, ap, subst, ◌∙◌, append_assoc, arith}
 use Rattle.std.specs.List.{AllByRecursion}
 use Rattle.std.proofs.lemmas.Bool.{and_parts}
-use Rattle.std.proofs.lemmas.List.{length-append, map-id}
 use Rattle.wh_lex.specs.declared.token.TokenKind.TheVariants as kinds
-use Rattle.wh_lex.specs.Spelling.{Follows, IsWordText}
+use Rattle.wh_lex.specs.Spelling.{Follows}
 use Rattle.wh_base.specs.declared.cond.Cond.{Cond}
 use Rattle.wh_base.specs.Cond.{nodes}
 use Rattle.wh_expr.specs.declared.expr.Expr.{Expr}
@@ -12,10 +11,10 @@ use Rattle.wh_expr.specs.declared.expr.Renaming.{Renaming}
 use Rattle.wh_grammar.specs.declared.symbol.Symbol.{Symbol}
 use Rattle.wh_grammar.specs.declared.symbol.Symbol.TheVariants as s
 use Rattle.wh_grammar.specs.Symbols.{symbol}
-use Rattle.wh_grammar.specs.Grammar.{Input, Outcome, Lexeme, Parser, Part, ◌>>=◌, pure, and_then as outcome_then, same, next, symbol_of, token, name, enclosed, separated}
+use Rattle.wh_grammar.specs.Grammar.{Input, Outcome, Lexeme, Parser, ◌>>=◌, pure, and_then as outcome_then, same, next, symbol_of, token, name, separated}
 use Rattle.wh_grammar.specs.Nesting.{too_nested}
 use Rattle.wh_grammar.specs.Conditions as conditions
-use Rattle.wh_grammar.specs.Printed.{printed, is_shallow, joined}
+use Rattle.wh_grammar.specs.Printed.{printed, is_shallow}
 use Rattle.wh_grammar.specs.Printable.{IsName, IsTextual}
 use Rattle.wh_grammar.specs.RoundTrip.{from}
 use Rattle.wh_grammar.proofs.DepthLemmas.{depth_free}

@@ -1,23 +1,21 @@
 -- The readers of a query against the grammar as data.
-use Rattle.std.proofs.Common.{◌≡◌, ◌<◌, ◌≤◌, ℕ, zero, suc, ◌+◌, ◌*◌, Bool, true, false, List, [], ◌∷◌, Option, Some, None, Ok, Err, refl, sym, ap, subst, ◌∙◌, arith}
+use Rattle.std.proofs.Common.{◌≡◌, ◌<◌, ◌≤◌, ℕ, zero, suc, ◌+◌, ◌*◌, Bool, true, false, List, Option, Some, None, Ok, Err, refl, ap, subst, ◌∙◌, arith}
 use Rattle.std.specs.Prelude.{is_some}
 use Rattle.wh_expr.specs.declared.expr.Expr.{Expr}
-use Rattle.wh_expr.specs.declared.expr.Expr.TheVariants.{Base, Project, Select, Rename, Join, Union, Minus}
 use Rattle.wh_grammar.specs.declared.symbol.Symbol.{Symbol}
 use Rattle.wh_grammar.specs.declared.symbol.Symbol.TheVariants as s
-use Rattle.wh_grammar.specs.Grammar.{Input, Outcome, Part, Parser, ◌>>=◌, and_then, pure, same, next, refusal, token, valued, name, starts, enclosed, ◌or◌, each, separated, whole}
+use Rattle.wh_grammar.specs.Grammar.{Input, Part, Parser, ◌>>=◌, pure, same, next, refusal, token, valued, name, enclosed, ◌or◌, each, separated, whole}
 use Rattle.wh_grammar.specs.GrammarData.{Tree, empty, leaf, pair, left, right, Agrees, token_tree, mapped, sequence, repeated, meaning, trees, name_of, unit_of, both, separated_of, enclosed_of}
 use Rattle.wh_grammar.specs.Conditions as conditions
 use Rattle.wh_grammar.specs.ConditionData.{disjunction, cond_of}
 use Rattle.wh_grammar.proofs.GrammarLemmas.{left as tokens_left, Keeps, Takes, bind_takes, bind_keeps, pure_keeps, takes_keeps, token_takes, name_takes, separated_takes, each_keeps}
 use Rattle.wh_grammar.proofs.CondLemmas.{condition_takes}
-use Rattle.wh_grammar.proofs.DataLemmas.{AgreeTo, SameTo, seq_agrees, bind_agrees, behind_agrees, starts_same, map_agrees, map_same, step, last_step, token_same, name_same, or_same, cond_agrees, each_agrees, separated_same, enclosed_same}
+use Rattle.wh_grammar.proofs.DataLemmas.{AgreeTo, SameTo, seq_agrees, behind_agrees, starts_same, map_agrees, map_same, step, last_step, token_same, name_same, or_same, cond_agrees, each_agrees, separated_same, enclosed_same}
 use Rattle.wh_grammar.proofs.CondDataLemmas.{cond_same}
 use Rattle.wh_query_text.specs.declared.raw.Infix.{Infix}
 use Rattle.wh_query_text.specs.declared.raw.Infix.TheVariants as infixes
 use Rattle.wh_query_text.specs.declared.raw.Prefix.{Prefix}
 use Rattle.wh_query_text.specs.declared.raw.Prefix.TheVariants as prefixes
-use Rattle.wh_query_text.specs.declared.raw.RawQuery.{RawQuery}
 use Rattle.wh_query_text.specs.Queries as g
 use Rattle.wh_query_text.specs.Queries.{product_of, sum_of}
 use Rattle.wh_query_text.specs.QueryTexts.{applied, combined, expr_of}

@@ -1,17 +1,16 @@
 -- What the parts of a query take, and the steps of its readers.
-use Rattle.std.proofs.Common.{◌≡◌, ◌≢◌, ◌<◌, ◌-◌, ℕ, zero, suc, Bool, true, false, List, [], ◌∷◌, length, Ok, Err, Option, Some, None, refl, sym, ap, ◌∙◌, arith}
+use Rattle.std.proofs.Common.{◌≡◌, ◌≢◌, ◌<◌, ◌-◌, ℕ, zero, suc, List, [], ◌∷◌, length, Ok, Err, Option, Some, None, refl, sym, ap, ◌∙◌, arith}
 use Rattle.std.specs.Prelude.{is_some}
 use Rattle.wh_grammar.specs.declared.symbol.Symbol.{Symbol}
 use Rattle.wh_grammar.specs.declared.symbol.Symbol.TheVariants as s
-use Rattle.wh_grammar.specs.Grammar.{Input, Outcome, Lexeme, Parser, Part, symbol_of, ◌>>=◌, and_then, pure, fail, same, next, after, place, token, taken, valued, name, starts, enclosed, ◌or◌, each}
-use Rattle.wh_grammar.specs.Conditions as conditions
+use Rattle.wh_grammar.specs.Grammar.{Input, Outcome, Lexeme, Parser, Part, symbol_of, ◌>>=◌, and_then, pure, fail, same, next, after, place, token, valued, name, ◌or◌, each}
 use Rattle.wh_grammar.proofs.GrammarLemmas.{Keeps, Takes, Refuses, bind_keeps, bind_takes, takes_keeps, pure_keeps, token_takes, name_takes, or_takes, or_else, or_refuses, separated_takes, enclosed_takes, fail_takes, each_keeps, each_goes, each_stops, other_than, left, after_is}
 use Rattle.wh_grammar.proofs.CondLemmas.{condition_takes, taken_ok}
 use Rattle.wh_query_text.specs.declared.raw.Infix.{Infix}
 use Rattle.wh_query_text.specs.declared.raw.Prefix.TheVariants as prefixes
 use Rattle.wh_query_text.specs.declared.raw.RawQuery.{RawQuery}
 use Rattle.wh_query_text.specs.declared.raw.RawQuery.TheVariants.{Named, Behind, Between}
-use Rattle.wh_query_text.specs.Queries.{noted, columns, project, selection, select, renaming, renamings, renaming_columns, rename, before, named, group, prefixed, factor_of, Further, attach, further, chain, product_of, sum_of, inner, factor, term, query}
+use Rattle.wh_query_text.specs.Queries.{noted, columns, project, selection, select, renaming, renamings, renaming_columns, rename, before, named, group, prefixed, factor_of, attach, further, chain, product_of, sum_of, inner, factor, term, query}
 
 pub noted_takes : {A B : Type 0} (p : Part A) (f : ℕ → A → Parser B) → Takes p.read → ((at : ℕ) (x : A) → Keeps (f at x)) → Takes (noted p f).read
 noted_takes p f hp hf i x j e = bind_takes p.read (f (place i)) hp (hf (place i)) i x j e

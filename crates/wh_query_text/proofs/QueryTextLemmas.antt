@@ -1,22 +1,19 @@
 -- The cases of the query of a text.
-use Rattle.std.proofs.Common.{◌≡◌, ◌≢◌, ◌+◌, ◌<◌, ◌^◌, ℕ, List, [], ◌∷◌, length, Ok, Err, Some, refl, sym, ap, ◌∙◌, arith}
+use Rattle.std.proofs.Common.{◌≡◌, ◌≢◌, ℕ, List, [], ◌∷◌, length, Ok, Err, Some, refl, sym, ap, ◌∙◌}
 use Rattle.std.proofs.lemmas.List.{length-map}
 use Rattle.wh_base.specs.declared.value.Attr.{Attr}
 use Rattle.wh_lex.specs.declared.token.Token.{Token}
 use Rattle.wh_expr.specs.declared.expr.Expr.{Expr}
 use Rattle.wh_expr.specs.declared.fault.TypeCause.{TypeCause}
 use Rattle.wh_expr.specs.declared.fault.TypeFault.TheVariants.{At}
-use Rattle.wh_expr.specs.Typing.{Fault, Typing, Answers, first_of, limited_typing}
+use Rattle.wh_expr.specs.Typing.{Fault, Typing, Answers, first_of}
 use Rattle.wh_grammar.specs.declared.fault.TextFault.{TextFault}
 use Rattle.wh_grammar.specs.declared.fault.TextFault.TheVariants as text_fault
 use Rattle.wh_grammar.specs.Grammar.{Input, Outcome, lexeme, start_of}
 use Rattle.wh_grammar.specs.Scanned.{scanned, value_of}
 use Rattle.wh_grammar.proofs.ScannedLemmas.{read_text_fault, read_text_read}
 use Rattle.wh_schema.specs.declared.spec.Spec.{Spec}
-use Rattle.wh_schema.specs.Heads.{heads_of}
-use Rattle.wh_query_text.specs.declared.fault.QueryFault.{QueryFault}
 use Rattle.wh_query_text.specs.declared.fault.QueryFault.TheVariants.{Rule, NoMemory}
-use Rattle.wh_query_text.specs.declared.parsing.Query.{Query}
 use Rattle.wh_query_text.specs.declared.raw.RawQuery.{RawQuery}
 use Rattle.wh_query_text.specs.Queries.{whole_query, any_query}
 use Rattle.wh_query_text.specs.QueryTexts.{raw_of_text, place_of_fault, place_below, ruled, of_text, query_of_expr, query_of_raw, query_of_text, expr_of, number_of}

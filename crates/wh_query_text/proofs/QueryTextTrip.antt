@@ -1,10 +1,10 @@
 -- The printed form of what is read of a query text, wherever it stands, is read as the same expression.
-use Rattle.std.proofs.Common.{◌≡◌, ◌<◌, ◌≤◌, ℕ, zero, suc, ◌+◌, ◌-◌, ◌*◌, Bool, true, false, ◌&&◌, cond, List, [], ◌∷◌, ◌++◌, length, Option, Some, None, Ok, Err, codes, refl, sym, ap, subst, ◌∙◌, append_assoc, arith}
+use Rattle.std.proofs.Common.{◌≡◌, ◌<◌, ◌≤◌, ℕ, zero, suc, ◌+◌, ◌-◌, true, List, [], ◌∷◌, ◌++◌, length, Option, Some, None, Ok, codes, refl, sym, ap, subst, ◌∙◌, append_assoc, arith}
 use Rattle.std.specs.Prelude.{nat_lt, is_some}
 use Rattle.std.proofs.lemmas.Bool.{and_parts}
 use Rattle.std.proofs.lemmas.List.{length-append}
 use Rattle.wh_lex.specs.declared.token.TokenKind.TheVariants as kinds
-use Rattle.wh_lex.specs.Spelling.{Follows, IsWordText}
+use Rattle.wh_lex.specs.Spelling.{Follows}
 use Rattle.wh_lex.proofs.SpellingLemmas.{reads_open, reads_close}
 use Rattle.wh_base.specs.declared.head.Head.{Head}
 use Rattle.wh_expr.specs.declared.expr.Expr.{Expr}
@@ -14,7 +14,7 @@ use Rattle.wh_expr.specs.Typing.{size}
 use Rattle.wh_grammar.specs.declared.symbol.Symbol.{Symbol}
 use Rattle.wh_grammar.specs.declared.symbol.Symbol.TheVariants as s
 use Rattle.wh_grammar.specs.Symbols.{symbol}
-use Rattle.wh_grammar.specs.Grammar.{Input, Outcome, Lexeme, Parser, Part, ◌>>=◌, pure, and_then as outcome_then, same, next, after, spelling, symbol_of, token, name, valued, starts, enclosed, each}
+use Rattle.wh_grammar.specs.Grammar.{Input, Lexeme, Parser, Part, ◌>>=◌, pure, and_then as outcome_then, same, next, after, spelling, symbol_of, token, valued, enclosed, each}
 use Rattle.wh_grammar.specs.Nesting.{too_nested}
 use Rattle.wh_grammar.specs.Printable.{IsName}
 use Rattle.wh_grammar.specs.RoundTrip.{from}
@@ -30,11 +30,11 @@ use Rattle.wh_query_text.specs.declared.raw.RawQuery.TheVariants.{Named, Behind,
 use Rattle.wh_query_text.specs.Printed.{Shown, placed, name_at, expr_shown}
 use Rattle.wh_query_text.specs.Queries.{product_of, sum_of}
 use Rattle.wh_query_text.specs.QueryTexts.{applied, combined, expr_of}
-use Rattle.wh_query_text.proofs.Fits.{IsPrefix, word_level, Fits, table, behind, between, Held, bare, grouped}
+use Rattle.wh_query_text.proofs.Fits.{word_level, Fits, table, behind, between, Held, bare, grouped}
 use Rattle.wh_query_text.proofs.PlacedLemmas.{placed_loose, placed_tight}
 use Rattle.wh_query_text.proofs.PrefixTrip.{IsPrefixWord, PrefixText, prefix_read}
 use Rattle.wh_query_text.proofs.QueryLemmas.{word_takes}
-use Rattle.wh_query_text.proofs.ShownLemmas.{prefix_text, word_text, prefix_nodes, shown_base, shown_applied, shown_combined, size_applied, size_combined, uses_base, uses_applied, uses_combined}
+use Rattle.wh_query_text.proofs.ShownLemmas.{prefix_text, word_text, shown_base, shown_applied, shown_combined, size_applied, size_combined, uses_base, uses_applied, uses_combined}
 use Rattle.wh_query_text.proofs.Unplaced as e
 
 -- ---- words between parts

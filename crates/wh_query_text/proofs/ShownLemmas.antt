@@ -1,11 +1,10 @@
 -- The printed form, the size and the numbers of each kind of expression.
-use Rattle.std.proofs.Common.{◌≡◌, ◌<◌, ◌≤◌, ℕ, suc, zero, ◌+◌, Bool, true, false, ◌&&◌, cond, List, [], ◌∷◌, ◌++◌, map, length, codes, refl, sym, ap, subst, ◌∙◌, append_assoc, arith}
+use Rattle.std.proofs.Common.{◌≡◌, ◌<◌, ℕ, suc, ◌+◌, Bool, true, false, ◌&&◌, cond, List, [], ◌∷◌, ◌++◌, map, length, codes, refl, sym, ap, ◌∙◌, append_assoc, arith}
 use Rattle.std.specs.Prelude.{nat_lt}
 use Rattle.std.specs.List.{flat_map}
 use Rattle.std.specs.Cmp.Lexicographic.{bytes_decides}
 use Rattle.std.proofs.lemmas.Bool.{ltb-true}
 use Rattle.std.proofs.lemmas.List.{length-append, length-map}
-use Rattle.wh_base.specs.declared.cond.Cond.{Cond}
 use Rattle.wh_base.specs.declared.head.Head.{Head}
 use Rattle.wh_base.specs.Columns.{name_eq, place_of}
 use Rattle.wh_base.specs.Cond.{nodes}
@@ -24,7 +23,7 @@ use Rattle.wh_query_text.specs.declared.raw.Infix.TheVariants as infixes
 use Rattle.wh_query_text.specs.declared.raw.Prefix.{Prefix}
 use Rattle.wh_query_text.specs.declared.raw.Prefix.TheVariants as prefixes
 use Rattle.wh_query_text.specs.Printed.{Shown, behind, beside, name_at, names_text, renamings_text, expr_shown, expr_shown_at}
-use Rattle.wh_query_text.specs.QueryTexts.{applied, combined, known_names, number_among, number_of}
+use Rattle.wh_query_text.specs.QueryTexts.{applied, combined, known_names, number_of}
 use Rattle.wh_query_text.proofs.Fits.{word_level}
 
 abbrev pub prefix_text : Prefix → List ℕ

@@ -1,5 +1,5 @@
 -- What a query text gives, its printed form gives again.
-use Rattle.std.proofs.Common.{◌≡◌, ◌<◌, ◌≤◌, ℕ, suc, ◌+◌, Bool, true, false, ◌&&◌, List, [], ◌∷◌, ◌++◌, length, map, nat_lt, IsTrue, Result, Ok, Err, Some, None, refl, sym, ap, subst, ◌∙◌, arith}
+use Rattle.std.proofs.Common.{◌≡◌, ◌≤◌, ℕ, ◌+◌, Bool, true, false, ◌&&◌, List, [], ◌∷◌, ◌++◌, length, map, nat_lt, IsTrue, Result, Ok, Err, None, refl, sym, ap, subst, ◌∙◌, arith}
 use Rattle.std.specs.Prelude.{nat_le}
 use Rattle.std.proofs.lemmas.Bool.{leb-true, and_parts}
 use Rattle.std.proofs.lemmas.List.{append-nil, length-map}
@@ -10,14 +10,12 @@ use Rattle.wh_lex.specs.Lexes.{tokens_of}
 use Rattle.wh_lex.specs.Lexed.{lexed}
 use Rattle.wh_lex.proofs.LexedLemmas.{lexed_is}
 use Rattle.wh_expr.specs.declared.expr.Expr.{Expr}
-use Rattle.wh_expr.specs.declared.fault.TypeCause.{TypeCause}
 use Rattle.wh_expr.specs.declared.fault.TypeCause.TheVariants.{TooDeep, TooBig}
 use Rattle.wh_expr.specs.Meaning.{uses_only}
-use Rattle.wh_expr.specs.Typing.{Fault, Typing, Answers, IsWellTyped, here, unless, depth, size, typing, limited_typing}
+use Rattle.wh_expr.specs.Typing.{Fault, IsWellTyped, here, unless, depth, size, typing, limited_typing}
 use Rattle.wh_expr.proofs.TypedLemmas.{numbers-answer}
 use Rattle.wh_grammar.specs.declared.fault.TextFault.{TextFault}
-use Rattle.wh_grammar.specs.declared.symbol.Symbol.TheVariants as s
-use Rattle.wh_grammar.specs.Grammar.{Input, Lexeme, Outcome, Parser, pure, and_then, same, next, lexeme, start_of, whole}
+use Rattle.wh_grammar.specs.Grammar.{Input, Outcome, pure, and_then, same, next, lexeme, start_of}
 use Rattle.wh_grammar.specs.Nesting.{too_nested}
 use Rattle.wh_grammar.specs.RoundTrip.{from}
 use Rattle.wh_grammar.proofs.GrammarLemmas.{ok_value, ok_input}
@@ -26,11 +24,10 @@ use Rattle.wh_grammar.proofs.ScannedLemmas.{scanned_whole}
 use Rattle.wh_grammar.proofs.Segments.{map_lexemes}
 use Rattle.wh_schema.specs.declared.spec.Spec.{Spec}
 use Rattle.wh_schema.specs.Heads.{heads_of}
-use Rattle.wh_query_text.specs.declared.fault.QueryFault.{QueryFault}
 use Rattle.wh_query_text.specs.declared.parsing.Query.{Query}
 use Rattle.wh_query_text.specs.declared.raw.Infix.TheVariants as infixes
 use Rattle.wh_query_text.specs.declared.raw.RawQuery.{RawQuery}
-use Rattle.wh_query_text.specs.Printed.{Shown, placed, expr_shown, expr_text}
+use Rattle.wh_query_text.specs.Printed.{placed, expr_shown, expr_text}
 use Rattle.wh_query_text.specs.Queries as g
 use Rattle.wh_query_text.specs.Queries.{sum_of}
 use Rattle.wh_query_text.specs.QueryTexts.{raw_of_text, ruled, expr_of, number_of, query_of_expr, query_of_raw, query_of_text}

@@ -1,12 +1,11 @@
 -- The readers of a query without places: they give the expressions of what the readers with places give.
-use Rattle.std.proofs.Common.{◌≡◌, ◌<◌, ◌≤◌, ◌-◌, ℕ, zero, suc, Bool, true, false, ◌||◌, cond, List, length, Option, Some, None, Ok, Err, refl, sym, ap, ◌∙◌, arith}
+use Rattle.std.proofs.Common.{◌≡◌, ◌<◌, ◌-◌, ℕ, zero, suc, Bool, true, false, cond, List, length, Option, Ok, Err, refl, sym, ap, ◌∙◌, arith}
 use Rattle.wh_expr.specs.declared.expr.Expr.{Expr}
 use Rattle.wh_expr.specs.declared.expr.Expr.TheVariants.{Base}
 use Rattle.wh_grammar.specs.declared.symbol.Symbol.{Symbol}
 use Rattle.wh_grammar.specs.declared.symbol.Symbol.TheVariants as s
-use Rattle.wh_grammar.specs.declared.fault.TextFault.{TextFault}
 use Rattle.wh_grammar.specs.Grammar.{Input, Outcome, Parser, Part, ◌>>=◌, and_then, pure, fail, same, next, place, token, valued, name, starts, enclosed, ◌or◌, each_from, each, whole}
-use Rattle.wh_grammar.proofs.GrammarLemmas.{Keeps, Takes, left, bind_ok, ok_input}
+use Rattle.wh_grammar.proofs.GrammarLemmas.{Keeps, Takes, left, ok_input}
 use Rattle.wh_query_text.specs.declared.raw.Infix.{Infix}
 use Rattle.wh_query_text.specs.declared.raw.Prefix.{Prefix}
 use Rattle.wh_query_text.specs.declared.raw.Prefix.TheVariants as prefixes

@@ -1,6 +1,5 @@
 -- The grammar of a query as data, and the expression of a tree.
 use Rattle.std.specs.Prelude.{◌≤◌, ◌+◌, ◌*◌, ℕ, List, length, Option, Some, None}
-use Rattle.wh_base.specs.declared.cond.Cond.{Cond}
 use Rattle.wh_expr.specs.declared.expr.Expr.{Expr}
 use Rattle.wh_expr.specs.declared.expr.Expr.TheVariants.{Base, Project, Select, Rename, Join, Union, Minus}
 use Rattle.wh_expr.specs.declared.expr.Renaming.{Renaming}

@@ -1,6 +1,6 @@
 use Rattle.std.proofs.Common.{◌≡◌, length, rules, ap, ◌∙◌}
 use Rattle.wh_schema.specs.Heads.{heads_of}
-use Rattle.wh_query_text.specs.QueryTexts.{expr_of, known_names, number_among, number_of, query_of_expr, query_of_text}
+use Rattle.wh_query_text.specs.QueryTexts.{expr_of, known_names, number_among, number_of}
 use Rattle.wh_query_text.proofs.QueryTextLemmas.{query_text_fault, query_is}
 use Rattle.wh_query_text.proofs.parsing.parse_query.Goals as goal
 

@@ -1,11 +1,9 @@
-use Rattle.std.proofs.Common.{◌≡◌, Err, Result, ap, subst, sym, ◌∙◌}
-use Rattle.wh_base.specs.declared.value.Attr.{Attr}
+use Rattle.std.proofs.Common.{◌≡◌, Err, ap, subst, ◌∙◌}
 use Rattle.wh_expr.specs.declared.fault.TypeFault.TheVariants.{At}
 use Rattle.wh_expr.specs.Typing.{Answers, limited_typing}
 use Rattle.wh_schema.specs.Heads.{heads_of}
 use Rattle.wh_query_text.proofs.QueryTextLemmas.{ruled_fault}
-use Rattle.wh_query_text.specs.declared.fault.QueryFault.TheVariants.{Rule}
-use Rattle.wh_query_text.specs.QueryTexts.{query_of_expr, place_of_fault, place_below}
+use Rattle.wh_query_text.specs.QueryTexts.{place_of_fault, place_below}
 use Rattle.wh_query_text.proofs.parsing.ruled.Goals as goal
 
 pub returns-in-Err-At-clause-fault : goal.returns-in-Err-At-clause-fault
