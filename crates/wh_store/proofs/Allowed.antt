@@ -1,7 +1,7 @@
 -- Deltas for which a warehouse is ready obey the rules behind its image.
-use Rattle.std.proofs.Common.{◌≡◌, ◌⊎◌, inl, inr, ⊎_elim, ℕ, ◌+◌, ◌-◌, ◌<◌, ◌≤◌, Bool, true, false, ◌&&◌, ◌||◌, not, cond, eqb, ltb, List, [], ◌∷◌, ◌++◌, length, get_or, map, filter, Contains, Option, None, Some, refl, sym, ap, subst, ◌∙◌, eq-eqb, arith, tests}
+use Rattle.std.proofs.Common.{◌≡◌, ◌⊎◌, inl, inr, ℕ, ◌+◌, ◌-◌, ◌<◌, ◌≤◌, Bool, true, false, ◌&&◌, ◌||◌, not, cond, eqb, ltb, List, [], ◌∷◌, ◌++◌, length, get_or, filter, Option, None, Some, refl, sym, ap, subst, ◌∙◌, eq-eqb, arith}
 use Rattle.std.specs.BTreeSet.{insert_key}
-use Rattle.std.specs.List.{AllByRecursion, IsDistinct, list_all, list_any, position, position_or_len}
+use Rattle.std.specs.List.{AllByRecursion, list_all, list_any, position, position_or_len}
 use Rattle.std.specs.Ordering.{match_ordering}
 use Rattle.std.specs.declared.cmp.Ordering.{Ordering}
 use Rattle.std.specs.declared.cmp.Ordering.TheVariants.{Less, Equal, Greater}
@@ -24,7 +24,7 @@ use Rattle.wh_base.proofs.RowSets.{SameRows-append, SameRows-filter, has-append,
 use Rattle.wh_laws.proofs.Lists.{every_from, every_in}
 use Rattle.wh_schema.specs.declared.spec.Spec.{Spec}
 use Rattle.wh_schema.specs.Warehouse.{Row, numbers}
-use Rattle.wh_table.specs.Table.{CanApply, IndexedRows}
+use Rattle.wh_table.specs.Table.{CanApply}
 use Rattle.wh_store.specs.declared.warehouse.Warehouse.{Warehouse}
 use Rattle.wh_store.specs.Commit.{CanApplyAll, first_over_after, rows_after}
 use Rattle.wh_store.specs.Image.{Image, applies, apply_to, are_stored_deltas, are_stored_tables, changed_table, changed_tables, first_over, fit_stored, fits_stored, no_delta, row_limit, stored_attrs, stored_count}
@@ -74,7 +74,7 @@ fewer : (rows gone : List Row) → AreDistinct gone → list_all (has rows) gone
 fewer rows gone distinct present =
     let kept = length-filter_both (has gone) (λ r. not (has gone r)) (λ r. refl) rows in
     let taken = no_more gone (filter (has gone) rows) distinct
-      (λ row there. has-filter (has gone) rows row ∙ and_from (has rows row) (has gone row) (every_from (has rows) gone present row ((any-Contains gone row).0 there)) there) in
+    (λ row there. has-filter (has gone) rows row ∙ and_from (has rows row) (has gone row) (every_from (has rows) gone present row ((any-Contains gone row).0 there)) there) in
     omega (arith, kept, taken)
 
 inserted_length : (rows : List Row) (row : Row) → length (insert_key row_cmp rows row) ≤ length rows + 1
@@ -95,7 +95,7 @@ changed_length : (held meant : List Row) (d : Delta) → SameRows held meant →
 changed_length held meant d same can =
     let gone = λ (r : Row). not (has d.deleted r) in
     let one : changed_table held d ≡ changed_table meant d = in_order-same (without held d.deleted ++ d.inserted) (without meant d.deleted ++ d.inserted)
-      (SameRows-append (without held d.deleted) d.inserted (without meant d.deleted) d.inserted (SameRows-filter gone gone (λ r. refl) held meant same) (λ r. refl)) in
+    (SameRows-append (without held d.deleted) d.inserted (without meant d.deleted) d.inserted (SameRows-filter gone gone (λ r. refl) held meant same) (λ r. refl)) in
     omega (arith, ap length one, in_order_length (without held d.deleted ++ d.inserted), length-append (without held d.deleted) d.inserted, fewer held d.deleted can.deleted_once can.present)
 
 -- ---- the rules
@@ -128,7 +128,7 @@ all_changed test rows d old new =
 all_numbers : (p : ℕ → Bool) (n : ℕ) → ((k : ℕ) → k < n → p k ≡ true) → list_all p (numbers n) ≡ true
 all_numbers p n each = every_in p (numbers n)
     (λ y there. let k = there.0 in let at : y ≡ k = sym there.2 ∙ get_or-range_with_len 0 n k y (omega (arith, there.1, length-range_with_len 0 n)) ∙ (omega arith) in
-      subst (λ (m : ℕ). p m ≡ true) (sym at) (each k (omega (arith, there.1, length-range_with_len 0 n))))
+    subst (λ (m : ℕ). p m ≡ true) (sym at) (each k (omega (arith, there.1, length-range_with_len 0 n))))
 
 at_number : (p : ℕ → Bool) (n k : ℕ) → k < n → list_all p (numbers n) ≡ true → p k ≡ true
 at_number p n k below all = every_from p (numbers n) all k (k, omega (arith, below, length-range_with_len 0 n), get_or-range_with_len 0 n k k below ∙ (omega arith))
@@ -166,17 +166,20 @@ may_follow i w deltas is stored can fit room =
     let each : (k : ℕ) → k < n → CanApply (table_at w.tables k).rows (get_or deltas k no_delta) = λ k below. can.each k (omega (arith, below, count, held)) in
     let same : (k : ℕ) → k < n → SameRows (table_at w.tables k).rows (get_or i.tables k []) = λ k below. is.rows k (omega (arith, below, count)) in
     and_from (apply_to i.tables deltas) (are_stored_tables i.spec after)
-      (and_from (eqb (length deltas) n) (list_all (λ k. applies (get_or i.tables k []) (get_or deltas k no_delta)) (numbers n))
-        (eq-eqb (length deltas) n (omega (arith, can.count, held, count)))
-        (all_numbers (λ k. applies (get_or i.tables k []) (get_or deltas k no_delta)) n (λ k below. still_applies (table_at w.tables k).rows (get_or i.tables k []) (get_or deltas k no_delta) (same k below) (each k below))))
-      (and_from (fit_stored i.spec after) (not (is_some (first_over after)))
-        (and_from (eqb (length after) (stored_count i.spec)) (list_all (λ k. fits_stored i.spec k (get_or after k [])) (numbers (stored_count i.spec)))
-          (eq-eqb (length after) (stored_count i.spec) (long ∙ count))
-          (all_numbers (λ k. fits_stored i.spec k (get_or after k [])) (stored_count i.spec) (λ k below. subst (λ (rows : List Row). fits_stored i.spec k rows ≡ true) (sym (at k (omega (arith, below, count))))
-            (all_changed (fits_row i.spec k) (get_or i.tables k []) (get_or deltas k no_delta) (at_number (λ m. fits_stored i.spec m (get_or i.tables m [])) (stored_count i.spec) k below fits.1) (fit k below)))))
-        (ap (λ (o : Option ℕ). not (is_some o)) (none_first (λ rows. ltb row_limit (length rows)) after [] (λ k below. subst (λ (rows : List Row). ltb row_limit (length rows) ≡ false) (sym (at k (omega (arith, below, long))))
-          (le-ltb row_limit (length (change k)) (omega (arith, changed_length (table_at w.tables k).rows (get_or i.tables k []) (get_or deltas k no_delta) (same k (omega (arith, below, long))) (each k (omega (arith, below, long))),
-            within w deltas k room (omega (arith, below, long, count, held)))))))))
+    (and_from (eqb (length deltas) n) (list_all (λ k. applies (get_or i.tables k []) (get_or deltas k no_delta)) (numbers n))
+    (eq-eqb (length deltas) n (omega (arith, can.count, held, count)))
+    (all_numbers (λ k. applies (get_or i.tables k []) (get_or deltas k no_delta)) n (λ k below. still_applies (table_at w.tables k).rows (get_or i.tables k []) (get_or deltas k no_delta) (same k below) (each k below))))
+    (and_from (fit_stored i.spec after) (not (is_some (first_over after)))
+    (and_from (eqb (length after) (stored_count i.spec)) (list_all (λ k. fits_stored i.spec k (get_or after k [])) (numbers (stored_count i.spec)))
+    (eq-eqb (length after) (stored_count i.spec) (long ∙ count))
+    (all_numbers (λ k. fits_stored i.spec k (get_or after k [])) (stored_count i.spec) (λ k below. subst (λ (rows : List Row). fits_stored i.spec k rows ≡ true) (sym (at k (omega (arith, below, count))))
+    (all_changed (fits_row i.spec k) (get_or i.tables k []) (get_or deltas k no_delta) (at_number (λ m. fits_stored i.spec m (get_or i.tables m [])) (stored_count i.spec) k below fits.1) (fit k below)))))
+    (ap (λ (o : Option ℕ). not (is_some o)) (none_first (λ rows. ltb row_limit (length rows)) after [] (λ k below. subst (λ (rows : List Row). ltb row_limit (length rows) ≡ false) (sym (at k (omega (arith, below, long))))
+    (le-ltb row_limit (length (change k)) (omega (
+      arith,
+      changed_length (table_at w.tables k).rows (get_or i.tables k []) (get_or deltas k no_delta) (same k (omega (arith, below, long))) (each k (omega (arith, below, long))),
+      within w deltas k room (omega (arith, below, long, count, held)),
+    )))))))
   where
     fits_row : Spec → ℕ → Row → Bool
     fits_row spec k row = pointwise kind_eq (row_kinds row) (kinds (stored_attrs spec k))

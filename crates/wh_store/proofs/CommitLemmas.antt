@@ -1,5 +1,5 @@
 -- What two files hold after one change more, and at each moment of its writing.
-use Rattle.std.proofs.Common.{◌≡◌, ◌⊎◌, inl, inr, ⊎_elim, ℕ, ◌+◌, ◌-◌, ◌<◌, ◌≤◌, ◌^◌, ltb, eqb, Bool, true, false, ◌&&◌, not, cond, List, [], ◌∷◌, ◌++◌, length, get_or, map, Option, None, Some, IfSome, Result, Ok, Err, refl, sym, ap, subst, ◌∙◌, arith}
+use Rattle.std.proofs.Common.{◌≡◌, inl, inr, ⊎_elim, ℕ, ◌+◌, ◌-◌, ◌<◌, ◌^◌, ltb, eqb, Bool, true, false, ◌&&◌, not, cond, List, [], ◌∷◌, ◌++◌, length, get_or, Option, None, Some, IfSome, Result, Ok, Err, refl, sym, ap, subst, ◌∙◌, arith}
 use Rattle.std.specs.List.{AllByRecursion, list_all}
 use Rattle.std.specs.Option.{ForSome, option_map, is_some}
 use Rattle.std.proofs.lemmas.Bool.{eqb-true}
@@ -13,19 +13,19 @@ use Rattle.wh_codec.specs.declared.frame.Frame.TheVariants.{Change}
 use Rattle.wh_codec.specs.Body.{IsSpelledDelta}
 use Rattle.wh_codec.specs.Reading.{frame_of}
 use Rattle.wh_codec.proofs.Frames.{body_again}
-use Rattle.wh_io.specs.Crash.{IsSettled, LeavesOnly}
+use Rattle.wh_io.specs.Crash.{LeavesOnly}
 use Rattle.wh_io.proofs.Moments.{leaves_map}
 use Rattle.wh_journal.specs.declared.journal.Journal.{Journal}
 use Rattle.wh_journal.specs.File.{frames_of}
-use Rattle.wh_journal.specs.Journal.{IsBeforeOrAfter, IsJournalOf, appended, with_frame}
+use Rattle.wh_journal.specs.Journal.{IsBeforeOrAfter, IsJournalOf, with_frame}
 use Rattle.wh_schema.specs.Warehouse.{Row, numbers}
 use Rattle.wh_table.specs.Table.{IndexedRows}
 use Rattle.wh_store.specs.declared.warehouse.Place.{Place}
 use Rattle.wh_store.specs.declared.warehouse.Warehouse.{Warehouse}
 use Rattle.wh_store.specs.declared.warehouse.Which.{Which}
 use Rattle.wh_store.specs.declared.warehouse.Which.TheVariants.{First, Second}
-use Rattle.wh_store.specs.Commit.{AreChanged, Advances, IsHeldBeforeOrAfter, Matches, MayFollow, active_of, active_with, change_body, held_with, image_with, journal_behind, other_of}
-use Rattle.wh_store.specs.Image.{Active, Holding, Image, after_frame, after_first, apply_to, are_stored_deltas, are_stored_tables, both, changed_table, changed_tables, chosen, end_behind, equal_generations, file_image, first_over, fit_stored, fits_stored, holding, image_of_bodies, image_of_frames, later_of, no_delta, replayed, replayed_on, some_image, stored_count}
+use Rattle.wh_store.specs.Commit.{AreChanged, AreKept, Advances, IsHeldBeforeOrAfter, Matches, MayFollow, active_of, active_with, change_body, held_with, image_with, journal_behind, other_of}
+use Rattle.wh_store.specs.Image.{Active, Holding, Image, after_frame, after_first, apply_to, are_stored_deltas, are_stored_tables, both, changed_table, changed_tables, end_behind, equal_generations, file_image, first_over, fit_stored, fits_stored, holding, image_of_bodies, image_of_frames, later_of, no_delta, replayed, replayed_on, some_image, stored_count}
 use Rattle.wh_store.specs.Warehouse.{IsInForm, IsPlaceOf, IsWarehouseOf, file_in, table_at}
 
 -- ---- one frame more in one file
@@ -193,15 +193,33 @@ rows_changed held meant d new same made row =
     ∙ SameRows-append (without held d.deleted) d.inserted (without meant d.deleted) d.inserted (SameRows-filter (λ r. not (has d.deleted r)) (λ r. not (has d.deleted r)) (λ r. refl) held meant same) (λ r. refl) row
     ∙ sym (SameRows-in_order (without meant d.deleted ++ d.inserted) row)
 
+-- other rows, of the same width and with the same indexed sets, are in the same form
+form_same : (w : Warehouse) (new : List IndexedRows) (n : ℕ) → length new ≡ length w.tables → ((k : ℕ) → (table_at new k).width ≡ (table_at w.tables k).width) → ((k : ℕ) → (table_at new k).indexes ≡ (table_at w.tables k).indexes) → IsInForm w
+    → IsInForm (record { plan = w.plan; tables = new; seq = n })
+form_same w new n count widths indexes form = record {
+  textual = form.textual;
+  plan = form.plan;
+  count = count ∙ form.count;
+  widths = λ k below. widths k ∙ form.widths k below;
+  indexes = λ k below. indexes k ∙ form.indexes k below;
+}
+
+-- tables that are kept
+module _ (w : Warehouse) (new : List IndexedRows) (kept : AreKept w.tables new) where
+  form_kept : IsInForm w → IsInForm (record { plan = w.plan; tables = new; seq = w.seq })
+  form_kept form = form_same w new w.seq kept.count kept.widths kept.indexes form
+
+  pub warehouse_kept : (i : Image) → IsWarehouseOf i w → IsWarehouseOf i (record { plan = w.plan; tables = new; seq = w.seq })
+  warehouse_kept i is = record {
+    form = form_kept is.form;
+    spec = is.spec;
+    rows = λ k below. subst (λ (rows : List Row). SameRows rows (get_or i.tables k [])) (sym (kept.rows k)) (is.rows k below);
+    seq = is.seq;
+  }
+
 module _ (deltas : List Delta) (w : Warehouse) (new : List IndexedRows) (changed : AreChanged w.tables deltas new) where
   form_after : IsInForm w → IsInForm (record { plan = w.plan; tables = new; seq = w.seq + 1 })
-  form_after form = record {
-    textual = form.textual;
-    plan = form.plan;
-    count = changed.count ∙ form.count;
-    widths = λ k below. changed.widths k ∙ form.widths k below;
-    indexes = λ k below. changed.indexes k ∙ form.indexes k below;
-  }
+  form_after form = form_same w new (w.seq + 1) changed.count changed.widths changed.indexes form
 
   warehouse_after : (i : Image) → IsWarehouseOf i w → are_stored_deltas i.spec i.tables deltas ≡ true → IsWarehouseOf (image_with i deltas) (record { plan = w.plan; tables = new; seq = w.seq + 1 })
   warehouse_after i is allowed =

@@ -1,7 +1,6 @@
 -- What is known of a file that holds an image: its closed mark stands where the image says, and the image has stored tables.
-use Rattle.std.proofs.Common.{◌≡◌, ℕ, ◌+◌, ◌^◌, Bool, true, false, ◌&&◌, cond, eqb, List, [], ◌∷◌, length, Option, None, Some, Result, Ok, Err, refl, sym, ap, subst, ◌∙◌, arith}
+use Rattle.std.proofs.Common.{◌≡◌, ℕ, ◌+◌, Bool, true, false, ◌&&◌, cond, eqb, List, [], ◌∷◌, Option, None, Some, Result, Ok, Err, refl, sym, ap, subst, ◌∙◌, arith}
 use Rattle.std.proofs.lemmas.Bool.{and_parts}
-use Rattle.wh_base.specs.declared.value.Delta.{Delta}
 use Rattle.wh_codec.specs.declared.frame.Frame.{Frame}
 use Rattle.wh_codec.specs.declared.frame.Frame.TheVariants.{Snapshot, Change}
 use Rattle.wh_codec.specs.Reading.{frame_of}

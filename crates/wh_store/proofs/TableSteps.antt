@@ -1,5 +1,5 @@
 -- Tables before and after each step of a change of all of them.
-use Rattle.std.proofs.Common.{◌≡◌, ◌⊎◌, inl, inr, ⊎_elim, ℕ, ◌+◌, ◌-◌, ◌<◌, ◌≤◌, ltb, Bool, true, false, not, cond, List, [], ◌∷◌, ◌++◌, length, get_or, take, Option, None, Some, refl, sym, ap, subst, ◌∙◌, arith}
+use Rattle.std.proofs.Common.{◌≡◌, ◌⊎◌, inl, inr, ⊎_elim, ℕ, ◌+◌, ◌-◌, ◌<◌, ◌≤◌, ltb, Bool, not, List, [], ◌∷◌, ◌++◌, length, get_or, take, Some, refl, sym, ap, subst, ◌∙◌, arith}
 use Rattle.std.specs.List.{position, position_or_len, enumerate_from, zip}
 use Rattle.std.proofs.Math.ListN.{set, length-set}
 use Rattle.std.proofs.lemmas.Bool.{cases_lt, cases_eq}
@@ -12,7 +12,7 @@ use Rattle.wh_base.specs.declared.value.Delta.{Delta}
 use Rattle.wh_base.specs.RowSet.{SameRows}
 use Rattle.wh_base.specs.Tables.{without}
 use Rattle.wh_table.specs.Table.{IndexedRows, CanApply}
-use Rattle.wh_schema.specs.Warehouse.{numbers}
+use Rattle.wh_schema.specs.Warehouse.{Row, numbers}
 use Rattle.wh_store.specs.Commit.{AreKept, AreChanged, CanApplyAll, HasRoom, first_over_after, rows_after}
 use Rattle.wh_store.specs.Image.{no_delta, row_limit}
 use Rattle.wh_store.specs.Warehouse.{no_table, table_at}
@@ -66,6 +66,13 @@ changed_all old deltas new all = record {
 
 pub kept_itself : (tables : List IndexedRows) → AreKept tables tables
 kept_itself tables = record { count = refl; rows = λ k. refl; widths = λ k. refl; indexes = λ k. refl; room = λ k. omega arith }
+
+-- what can be applied to them can still be
+pub can_apply_kept : (old new : List IndexedRows) (deltas : List Delta) → AreKept old new → CanApplyAll old deltas → CanApplyAll new deltas
+can_apply_kept old new deltas kept can = record {
+  count = can.count ∙ sym kept.count;
+  each = λ k below. subst (λ (rows : List Row). CanApply rows (get_or deltas k no_delta)) (sym (kept.rows k)) (can.each k (omega (arith, below, kept.count)));
+}
 
 -- a table as it was, with no less room
 pub record IsKept (old new : IndexedRows) : Type 0 where

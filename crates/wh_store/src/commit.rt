@@ -6,6 +6,7 @@ ghost use Rattle.wh_journal.specs.File.{frames_of};
 ghost use Rattle.wh_journal.specs.Journal.{IsJournalOf, IsBeforeOrAfter, appended, with_frame};
 ghost use Rattle.wh_store.specs.Commit.{CanApplyAll, HasRoom, AreChanged, Matches, MayFollow, Advances, IsHeldBeforeOrAfter, active_of, other_of, change_body, journal_behind};
 ghost use Rattle.wh_store.specs.Image.{Active};
+ghost use Rattle.wh_store.specs.Warehouse.{IsInForm};
 
 use crate::changes::apply_all;
 use crate::ready::Ready;
@@ -84,6 +85,7 @@ impl Warehouse {
         ensures seq_kept { OnErr result (self.new.seq ≡ self.old.seq) }
         ensures dead { OnErr result (place.new ≡ record place.old { live = false }) }
         ensures plan { self.new.plan ≡ self.old.plan }
+        ensures form { IsInForm self.old → IsInForm self.new }
         ensures file { OnOk result (D.content (active_of place.old.which first.new second.new) ≡ option_map (λ file. appended file place.old.journal.end r.body) (D.content (active_of place.old.which first.old second.old))) }
         ensures journal { OnOk result (ForSome (D.content (active_of place.old.which first.new second.new)) (λ file. IsJournalOf file place.new.journal)) }
         ensures other { other_of place.old.which first.new second.new ≡ other_of place.old.which first.old second.old }

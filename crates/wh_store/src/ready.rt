@@ -2,6 +2,8 @@ ghost use Rattle.std.specs.Prelude.{◌≡◌, ◌<◌, ◌^◌, length, IfOk};
 ghost use Rattle.std.specs.List.{AllByRecursion};
 ghost use Rattle.wh_codec.specs.Body.{IsSpelledChange, IsSpelledDelta};
 ghost use Rattle.wh_store.specs.Commit.{CanApplyAll, AreKept, HasRoom, IsMadeReady, change_body};
+ghost use Rattle.wh_store.specs.Image.{Image};
+ghost use Rattle.wh_store.specs.Warehouse.{IsInForm, IsWarehouseOf};
 
 use crate::changes::{first_over, prepare_all};
 use crate::fault::StoreFault;
@@ -71,6 +73,9 @@ impl Warehouse {
         ensures plan { self.new.plan ≡ self.old.plan }
         ensures seq { self.new.seq ≡ self.old.seq }
         ensures room { IfOk result (λ r. HasRoom self.new.tables r.deltas) }
+        ensures applies { IfOk result (λ r. CanApplyAll self.new.tables r.deltas) }
+        ensures form { IsInForm self.old → IsInForm self.new }
+        ensures image { (i : Image) → IsWarehouseOf i self.old → IsWarehouseOf i self.new }
     {
         if let Some(table) = first_over(&self.tables, &deltas) {
             let table = table as u32;

@@ -1,12 +1,10 @@
-use Rattle.std.proofs.Common.{◌≡◌, ◌+◌, ℕ, ◌<◌, ◌≤◌, ◌++◌, List, [], ◌∷◌, length, get_or, rules, sym, ap, subst, ◌∙◌, arith}
+use Rattle.std.proofs.Common.{◌≡◌, ℕ, ◌++◌, [], ◌∷◌, length, rules, subst, ◌∙◌, arith}
 use Rattle.std.proofs.lemmas.Iterator.Adapters.{YieldsList-from_vec}
 use Rattle.std.proofs.lemmas.Iterator.Consumers.{YieldsList-from_enumerate, YieldsList-turn, YieldsList-end}
-use Rattle.std.proofs.lemmas.List.{get_or_read, length_push}
+use Rattle.std.proofs.lemmas.List.{length_push}
 use Rattle.std.proofs.lemmas.List.FromFn.{length-enumerate_from}
-use Rattle.wh_table.specs.Table.{CanApply, IndexedRows}
-use Rattle.wh_store.specs.Warehouse.{no_table, table_at}
 use Rattle.wh_store.specs.Image.{no_delta}
-use Rattle.wh_store.proofs.TableSteps.{AreChangedTo, IsChanged, changed_all, changed_more, may_change, changed_by, turned}
+use Rattle.wh_store.proofs.TableSteps.{AreChangedTo, changed_all, may_change, changed_by, turned}
 use Rattle.wh_store.proofs.changes.apply_each.Goals as goal
 
 pub index_mut-requires : goal.index_mut-requires

@@ -1,4 +1,4 @@
-use Rattle.std.proofs.Common.{◌≡◌, ℕ, ◌<◌, ◌≤◌, length}
+use Rattle.std.proofs.Common.{length}
 use Rattle.wh_store.proofs.TableSteps.{AreChangedTo}
 use Rattle.wh_store.proofs.changes.apply_each.Given as goal
 

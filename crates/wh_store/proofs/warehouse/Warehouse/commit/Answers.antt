@@ -1,10 +1,10 @@
-use Rattle.std.proofs.Common.{◌≡◌, ◌+◌, List, ℕ, Option, IfSome, rules, sym, ap, subst, ◌∙◌, arith}
+use Rattle.std.proofs.Common.{◌≡◌, List, ℕ, Option, IfSome, rules, sym, ap, subst, ◌∙◌}
 use Rattle.std.specs.Option.{ForSome, option_map}
-use Rattle.wh_io.specs.Crash.{IsSettled, LeavesOnly}
+use Rattle.wh_io.specs.Crash.{LeavesOnly}
 use Rattle.wh_journal.specs.File.{frames_of}
 use Rattle.wh_journal.specs.Journal.{IsBeforeOrAfter, IsJournalOf, with_frame}
 use Rattle.wh_store.proofs.CommitLemmas.{advances_told, content_of, held_moments, other_content}
-use Rattle.wh_store.specs.Commit.{AreChanged, active_of, change_body, journal_behind, other_of}
+use Rattle.wh_store.specs.Commit.{AreChanged, active_of, journal_behind}
 use Rattle.wh_store.proofs.warehouse.Warehouse.commit.Goals as goal
 
 pub returns-in-Ok-clause-holds : goal.returns-in-Ok-clause-holds
