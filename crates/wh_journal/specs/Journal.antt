@@ -76,6 +76,11 @@ IsFound file (Err (fault.Damaged at)) = frames_of file ≡ Err at
 IsFound file (Err fault.DiskFault) = Unit {0}
 IsFound file (Err fault.NoMemory) = Unit {0}
 
+-- the journal of what was found ends behind the frames
+abbrev pub EndsBehind : Found → Type 0
+EndsBehind Empty = Unit {0}
+EndsBehind (Frames bodies journal) = journal.end ≡ span (bodies_of bodies)
+
 -- a fault that blames no mark
 abbrev pub IsNoDamage : JournalFault → Type 0
 IsNoDamage (fault.Damaged at) = ⊥

@@ -1,8 +1,8 @@
 // The frames in the bytes of a file.
-ghost use Rattle.std.specs.Prelude.{◌≡◌, ◌≤◌, ◌∷◌, length, false};
+ghost use Rattle.std.specs.Prelude.{◌≡◌, ◌≤◌, ◌∷◌, length, false, IfOk};
 ghost use Rattle.std.specs.Option.{option_map};
 ghost use Rattle.wh_journal.specs.File.{body_at, is_empty, length_in};
-ghost use Rattle.wh_journal.specs.Journal.{IsMark, IsWalked, IsFound, is_disk_fault};
+ghost use Rattle.wh_journal.specs.Journal.{IsMark, IsWalked, IsFound, EndsBehind, is_disk_fault};
 
 use crate::fault::JournalFault;
 use crate::found::Found;
@@ -104,6 +104,7 @@ fn is_empty(file: &[u8]) -> bool
 /// What stands in the bytes of a file.
 pub(crate) fn found_in(alloc: Global, file: &[u8]) -> Result<Found, JournalFault>
     ensures found { IsFound file.now result }
+    ensures end { IfOk result EndsBehind }
     ensures no_disk { is_disk_fault result ≡ false }
 {
     if is_empty(file) {

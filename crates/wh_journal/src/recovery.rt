@@ -1,7 +1,7 @@
 ghost use Rattle.std.specs.Prelude.{◌≡◌, ◌+◌, ◌≤◌, length, IfOk, IfErr, IfSome};
 ghost use Rattle.wh_io.specs.Causes.{IsCounted};
 ghost use Rattle.wh_io.specs.Crash.{IsSettled, SameImages, LeavesOnly};
-ghost use Rattle.wh_journal.specs.Journal.{IsFound, IsNoDamage, UnlessDiskFault, is_disk_fault};
+ghost use Rattle.wh_journal.specs.Journal.{IsFound, EndsBehind, IsNoDamage, UnlessDiskFault, is_disk_fault};
 
 use crate::fault::JournalFault;
 use crate::file::found_in;
@@ -29,6 +29,7 @@ fn read_file<D: Disk>(alloc: Global, disk: &mut D) -> Result<Vec<u8>, JournalFau
 /// might have left before.
 pub fn recover<D: Disk>(alloc: Global, disk: &mut D) -> Result<Found, JournalFault>
     ensures found { IfSome (D.content disk.old) (λ file. IsFound file result) }
+    ensures end { IfOk result EndsBehind }
     ensures same { D.content disk.new ≡ D.content disk.old }
     ensures durable { UnlessDiskFault result (IsSettled (D.content disk.new) (D.images disk.new)) }
     ensures any_moment { LeavesOnly D.moment D.images_since disk.old disk.new (D.images disk.old) }

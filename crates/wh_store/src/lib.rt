@@ -8,7 +8,10 @@ mod creation;
 mod emptiness;
 mod fault;
 mod opening;
+mod reading;
 mod ready;
+mod replay;
+mod tables;
 mod warehouse;
 
 pub use change_laws::{active_file_is_a_journal, ready_deltas_may_follow};

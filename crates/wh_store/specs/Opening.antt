@@ -1,0 +1,95 @@
+-- What is known of a file while a store is opened.
+use Rattle.std.specs.Prelude.{◌≡◌, ◌⊎◌, ℕ, Bool, true, ◌&&◌, ◌==◌, if◌then◌else◌, List, [], length, get_or, Option, None, Some, Result, Ok, Err, IfOk}
+use Rattle.std.specs.List.{list_all, AllByRecursion}
+use Rattle.std.specs.Str.{bytes_eq}
+use Rattle.wh_base.specs.declared.value.Attr.{Attr}
+use Rattle.wh_base.specs.declared.value.Delta.{Delta}
+use Rattle.wh_base.specs.RowSet.{IsAscending}
+use Rattle.wh_plan.specs.Plan.{IsPlan}
+use Rattle.wh_schema.specs.declared.spec.Spec.{Spec}
+use Rattle.wh_schema.specs.Heads.{heads_of}
+use Rattle.wh_schema.specs.Warehouse.{Row, numbers}
+use Rattle.wh_spec_text.specs.declared.fault.SpecTextFault.{SpecTextFault}
+use Rattle.wh_spec_text.specs.Printed.{spec_text}
+use Rattle.wh_spec_text.specs.SpecTexts.{spec_of_text}
+use Rattle.wh_spec_text.specs.Textual.{IsTextualSpec}
+use Rattle.wh_store.specs.declared.fault.StoreFault.{StoreFault}
+use Rattle.wh_store.specs.declared.fault.StoreFault.TheVariants as fault
+use Rattle.wh_store.specs.declared.replay.Replay.{Replay}
+use Rattle.wh_store.specs.declared.replay.FileState.{FileState}
+use Rattle.wh_store.specs.declared.replay.FileState.TheVariants as state
+use Rattle.wh_store.specs.declared.warehouse.Which.{Which}
+use Rattle.wh_store.specs.declared.warehouse.Which.TheVariants.{First, Second}
+use Rattle.wh_store.specs.Image.{Image, Active, Holding, file_image, fit_stored, fit_attrs, applies, no_delta, stored_attrs}
+
+-- ---- a snapshot's specification
+
+-- the specification that a text says
+abbrev pub said_by : Result Spec SpecTextFault → Option Spec
+said_by (Ok spec) = Some spec
+said_by (Err fault) = None
+
+-- where its printed form is this text
+abbrev pub if_printed : List ℕ → Option Spec → Option Spec
+if_printed text None = None
+if_printed text (Some spec) = if bytes_eq (spec_text spec) text then Some spec else None
+
+-- ---- one file
+
+-- the image that the frames so far come to
+abbrev pub image_of : Replay → Image
+image_of r = record { generation = r.generation; seq = r.seq; spec = r.plan.spec; tables = r.tables; end = r.journal.end }
+
+-- The plan is that of a textual specification, and the tables are its stored ones, in order.
+pub record IsSound (r : Replay) : Type 0 where
+  pub plan : IsPlan r.plan
+  pub textual : IsTextualSpec r.plan.spec
+  pub heads : r.heads ≡ heads_of r.plan.spec
+  pub fits : fit_stored r.plan.spec r.tables ≡ true
+  pub ascending : AllByRecursion IsAscending r.tables
+
+-- what was read of a file, as what it holds
+abbrev pub found_of : FileState → Result (Option Image) ℕ
+found_of state.Empty = Ok None
+found_of (state.Held r) = Ok (Some (image_of r))
+found_of (state.Damaged at) = Err at
+
+abbrev pub IsSoundState : FileState → Type 0
+IsSoundState state.Empty = Unit {0}
+IsSoundState (state.Held r) = IsSound r
+IsSoundState (state.Damaged at) = Unit {0}
+
+-- the journal of a held state has this length
+abbrev pub HasLength : ℕ → FileState → Type 0
+HasLength n state.Empty = Unit {0}
+HasLength n (state.Held r) = r.journal.length ≡ n
+HasLength n (state.Damaged at) = Unit {0}
+
+-- what was read is what the file holds
+pub record IsStateOf (file : List ℕ) (read : FileState) : Type 0 where
+  pub image : file_image file ≡ found_of read
+  pub length : HasLength (length file) read
+
+-- ---- changes
+
+-- the delta applies to the rows, and the rows that it inserts have the kinds of the attributes
+abbrev pub takes : List Attr → List Row → Delta → Bool
+takes attrs rows d = applies rows d && fit_attrs attrs d.inserted
+
+-- one delta for each table, which the table takes
+abbrev pub all_take : Spec → List (List Row) → List Delta → Bool
+all_take spec tables deltas =
+    (length deltas == length tables) && list_all (λ k. takes (stored_attrs spec k) (get_or tables k []) (get_or deltas k no_delta)) (numbers (length tables))
+
+-- ---- both files
+
+abbrev pub file_state : Which → FileState → FileState → FileState
+file_state First first second = first
+file_state Second first second = second
+
+-- the state that counts is that of one of the files
+abbrev pub IsChosen : FileState → FileState → Holding → Result (Which × Replay) StoreFault → Type 0
+IsChosen first second holds (Ok chosen) = (holds ≡ Ok (Some (record { which = chosen.0; image = image_of chosen.1 }))) × (file_state chosen.0 first second ≡ state.Held chosen.1)
+IsChosen first second holds (Err fault.NotLoaded) = holds ≡ Ok None
+IsChosen first second holds (Err (fault.Damaged which at)) = holds ≡ Err (record { which = which; at = at })
+IsChosen first second holds (Err other) = ⊥
