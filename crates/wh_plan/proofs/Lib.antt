@@ -1,7 +1,7 @@
 mod ColumnLemmas
 pub mod ExprMeaning
 pub mod HeldLemmas
-mod IndexLemmas
+pub mod IndexLemmas
 pub mod OrderLemmas
 mod PlanLemmas
 pub mod UsesLemmas

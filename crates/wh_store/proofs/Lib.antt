@@ -1,6 +1,14 @@
 mod Allowed
+pub mod Alone
+pub mod ChangedTables
 mod CommitLemmas
 pub mod FirstByte
+pub mod FrameLemmas
+pub mod Loaded
+pub mod Searches
 mod SoundFiles
+pub mod StoredLemmas
+pub mod TableLemmas
 mod TableSteps
 pub mod TextualLemmas
+pub mod Turns

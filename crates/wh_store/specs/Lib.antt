@@ -1,4 +1,5 @@
 pub mod Commit
+pub mod Creation
 pub mod Image
 pub mod Opening
 pub mod Store

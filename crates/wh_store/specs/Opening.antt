@@ -1,13 +1,16 @@
 -- What is known of a file while a store is opened.
-use Rattle.std.specs.Prelude.{◌≡◌, ◌⊎◌, ℕ, Bool, true, ◌&&◌, ◌==◌, if◌then◌else◌, List, [], length, get_or, Option, None, Some, Result, Ok, Err, IfOk}
+use Rattle.std.specs.Prelude.{◌≡◌, ℕ, ◌<◌, Bool, true, ◌&&◌, ◌==◌, if◌then◌else◌, List, [], ◌++◌, length, map, get_or, Option, None, Some, Result, Ok, Err}
 use Rattle.std.specs.List.{list_all, AllByRecursion}
 use Rattle.std.specs.Str.{bytes_eq}
 use Rattle.wh_base.specs.declared.value.Attr.{Attr}
 use Rattle.wh_base.specs.declared.value.Delta.{Delta}
-use Rattle.wh_base.specs.RowSet.{IsAscending}
+use Rattle.wh_base.specs.declared.head.Head.{Head}
+use Rattle.wh_base.specs.Heads.{attrs_at}
+use Rattle.wh_base.specs.RowSet.{IsAscending, SameRows}
+use Rattle.wh_plan.specs.declared.plan.Plan.{Plan}
 use Rattle.wh_plan.specs.Plan.{IsPlan}
 use Rattle.wh_schema.specs.declared.spec.Spec.{Spec}
-use Rattle.wh_schema.specs.Heads.{heads_of}
+use Rattle.wh_schema.specs.Heads.{view_head, complement_head}
 use Rattle.wh_schema.specs.Warehouse.{Row, numbers}
 use Rattle.wh_spec_text.specs.declared.fault.SpecTextFault.{SpecTextFault}
 use Rattle.wh_spec_text.specs.Printed.{spec_text}
@@ -20,7 +23,9 @@ use Rattle.wh_store.specs.declared.replay.FileState.{FileState}
 use Rattle.wh_store.specs.declared.replay.FileState.TheVariants as state
 use Rattle.wh_store.specs.declared.warehouse.Which.{Which}
 use Rattle.wh_store.specs.declared.warehouse.Which.TheVariants.{First, Second}
-use Rattle.wh_store.specs.Image.{Image, Active, Holding, file_image, fit_stored, fit_attrs, applies, no_delta, stored_attrs}
+use Rattle.wh_store.specs.Image.{Image, Active, Holding, file_image, fit_stored, fit_attrs, applies, no_delta}
+use Rattle.wh_store.specs.Warehouse.{table_at}
+use Rattle.wh_table.specs.Table.{IndexedRows}
 
 -- ---- a snapshot's specification
 
@@ -34,6 +39,27 @@ abbrev pub if_printed : List ℕ → Option Spec → Option Spec
 if_printed text None = None
 if_printed text (Some spec) = if bytes_eq (spec_text spec) text then Some spec else None
 
+-- ---- stored tables by their heads
+
+-- the heads of the stored tables: those of the views, then those of the complements
+abbrev pub stored_heads : Spec → List Head
+stored_heads spec = map (view_head spec) spec.views ++ map complement_head spec.relations
+
+-- one table for each head, of its kinds
+abbrev pub fit_heads : List Head → List (List Row) → Bool
+fit_heads stored tables = (length tables == length stored) && list_all (λ k. fit_attrs (attrs_at stored k) (get_or tables k [])) (numbers (length stored))
+
+-- a table with these rows, of a width and with indexed sets
+pub record IsTableOf (width : ℕ) (sets : List (List ℕ)) (rows : List Row) (t : IndexedRows) : Type 0 where
+  pub rows_same : SameRows t.rows rows
+  pub width_is : t.width ≡ width
+  pub indexes_are : t.indexes ≡ sets
+
+-- one table for each list of rows, with the head's width and the plan's indexed sets
+pub record AreTablesOf (plan : Plan) (stored : List Head) (rows : List (List Row)) (tables : List IndexedRows) : Type 0 where
+  pub count : length tables ≡ length rows
+  pub each : (k : ℕ) → k < length rows → IsTableOf (length (attrs_at stored k)) (get_or plan.indexes k []) (get_or rows k []) (table_at tables k)
+
 -- ---- one file
 
 -- the image that the frames so far come to
@@ -44,7 +70,7 @@ image_of r = record { generation = r.generation; seq = r.seq; spec = r.plan.spec
 pub record IsSound (r : Replay) : Type 0 where
   pub plan : IsPlan r.plan
   pub textual : IsTextualSpec r.plan.spec
-  pub heads : r.heads ≡ heads_of r.plan.spec
+  pub stored : r.stored ≡ stored_heads r.plan.spec
   pub fits : fit_stored r.plan.spec r.tables ≡ true
   pub ascending : AllByRecursion IsAscending r.tables
 
@@ -77,9 +103,9 @@ abbrev pub takes : List Attr → List Row → Delta → Bool
 takes attrs rows d = applies rows d && fit_attrs attrs d.inserted
 
 -- one delta for each table, which the table takes
-abbrev pub all_take : Spec → List (List Row) → List Delta → Bool
-all_take spec tables deltas =
-    (length deltas == length tables) && list_all (λ k. takes (stored_attrs spec k) (get_or tables k []) (get_or deltas k no_delta)) (numbers (length tables))
+abbrev pub all_take : List Head → List (List Row) → List Delta → Bool
+all_take stored tables deltas =
+    (length deltas == length tables) && list_all (λ k. takes (attrs_at stored k) (get_or tables k []) (get_or deltas k no_delta)) (numbers (length tables))
 
 -- ---- both files
 

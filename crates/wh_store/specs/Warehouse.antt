@@ -27,11 +27,15 @@ pub record IsInForm (w : Warehouse) : Type 0 where
   pub widths : (k : ℕ) → k < stored_count w.plan.spec → (table_at w.tables k).width ≡ length (stored_attrs w.plan.spec k)
   pub indexes : (k : ℕ) → k < stored_count w.plan.spec → (table_at w.tables k).indexes ≡ get_or w.plan.indexes k []
 
+-- the tables have these rows
+abbrev pub HasRows : Spec → List (List Row) → Warehouse → Type 0
+HasRows spec tables w = (k : ℕ) → k < stored_count spec → SameRows (table_at w.tables k).rows (get_or tables k [])
+
 -- The warehouse has the specification, the rows of the tables and the number of changes of an image.
 pub record IsWarehouseOf (i : Image) (w : Warehouse) : Type 0 where
   pub form : IsInForm w
   pub spec : w.plan.spec ≡ i.spec
-  pub rows : (k : ℕ) → k < stored_count i.spec → SameRows (table_at w.tables k).rows (get_or i.tables k [])
+  pub rows : HasRows i.spec i.tables w
   pub seq : w.seq ≡ i.seq
 
 abbrev pub file_in : Which → List ℕ → List ℕ → List ℕ

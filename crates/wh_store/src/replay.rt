@@ -10,13 +10,12 @@ ghost use Rattle.wh_store.specs.Image.{end_behind, after_first, after_frame, ima
 ghost use Rattle.wh_store.specs.Opening.{image_of, IsSound, found_of, IsSoundState, HasLength, IsStateOf};
 
 use crate::reading::{frame_in, plan_in};
-use crate::tables::{are_stored_tables, next_tables};
+use crate::tables::{are_stored_tables, next_tables, stored_heads};
 use std::alloc::Global;
 use wh_base::{ByteText, Bytes, Heads, NoMemory, StoredDeltas, StoredRows, Texts};
 use wh_codec::Frame;
 use wh_journal::{Found, Journal};
 use wh_plan::Plan;
-use wh_schema::heads;
 
 /// What the frames of a file come to so far: a snapshot, and the changes behind it.
 #[derive(Drop)]
@@ -24,8 +23,8 @@ pub(crate) struct Replay {
     pub(crate) generation: u64,
     pub(crate) seq: u64,
     pub(crate) plan: Plan,
-    /// The heads of the specification, by number.
-    pub(crate) heads: Heads,
+    /// The heads of the stored tables.
+    pub(crate) stored: Heads,
     pub(crate) tables: StoredRows,
     /// It ends behind the frames so far, and has the file's length.
     pub(crate) journal: Journal,
@@ -57,15 +56,15 @@ fn of_snapshot(
     let Some(plan) = plan_in(alloc, text.as_slice())? else {
         return Ok(None);
     };
-    let heads = heads(alloc, &plan.spec)?;
-    if !are_stored_tables(&plan.spec, heads.as_slice(), tables.as_slice()) {
+    let stored = stored_heads(alloc, &plan.spec)?;
+    if !are_stored_tables(&plan.spec, stored.as_slice(), tables.as_slice()) {
         return Ok(None);
     }
     Ok(Some(Replay {
         generation,
         seq,
         plan,
-        heads,
+        stored,
         tables,
         journal,
     }))
@@ -91,7 +90,10 @@ fn first_state(alloc: Global, body: &ByteText, len: u64) -> Result<Option<Replay
             spec,
             tables,
         } => of_snapshot(alloc, generation, seq, &spec, tables, journal),
-        Frame::Change { .. } => Ok(None),
+        Frame::Change {
+            seq: _,
+            deltas: _deltas,
+        } => Ok(None),
     }
 }
 
@@ -124,11 +126,11 @@ fn changed(
         generation,
         seq: _,
         plan,
-        heads,
+        stored,
         tables,
         journal,
     } = state;
-    let Some(tables) = next_tables(alloc, &plan.spec, heads.as_slice(), tables, deltas)? else {
+    let Some(tables) = next_tables(alloc, &plan.spec, stored.as_slice(), tables, deltas)? else {
         return Ok(None);
     };
     let journal = Journal {
@@ -139,7 +141,7 @@ fn changed(
         generation,
         seq,
         plan,
-        heads,
+        stored,
         tables,
         journal,
     }))
@@ -163,7 +165,12 @@ fn next_state(
         return Ok(None);
     };
     match frame {
-        Frame::Snapshot { .. } => Ok(None),
+        Frame::Snapshot {
+            generation: _,
+            seq: _,
+            spec: _spec,
+            tables: _tables,
+        } => Ok(None),
         Frame::Change { seq, deltas } => changed(alloc, state, seq, &deltas, end),
     }
 }

@@ -8,15 +8,14 @@ ghost use Rattle.wh_base.specs.Value.{row_kinds, value_kind, kinds};
 ghost use Rattle.wh_base.specs.Tables.{without};
 ghost use Rattle.wh_codec.specs.Body.{IsSpelledDelta};
 ghost use Rattle.wh_expr.specs.Typing.{kind_eq};
-ghost use Rattle.wh_schema.specs.Heads.{heads_of};
 ghost use Rattle.wh_store.specs.Image.{fit_attrs, fit_stored, first_over, are_stored_tables, applies, changed_table, changed_tables, are_stored_deltas};
-ghost use Rattle.wh_store.specs.Opening.{takes, all_take};
+ghost use Rattle.wh_store.specs.Opening.{stored_heads, fit_heads, takes, all_take};
 
 use std::alloc::Global;
 use wh_base::{
-    Attr, Delta, Duplicate, Head, Kind, NoMemory, Row, Rows, StoredDeltas, StoredRows, Value, sort_rows,
+    Attr, Delta, Duplicate, Head, Heads, Kind, NoMemory, Row, Rows, StoredDeltas, StoredRows, Value, sort_rows,
 };
-use wh_schema::Spec;
+use wh_schema::{Spec, heads};
 
 /// The most rows that a stored table may have.
 const ROW_LIMIT: usize = 4_000_000;
@@ -66,16 +65,25 @@ pub(crate) fn attrs_at(heads: &[Head], n: usize) -> &[Attr]
     }
 }
 
-/// Whether there is one table for each that is stored, of its kinds.
-pub(crate) fn fit_stored(spec: &Spec, heads: &[Head], tables: &[Rows]) -> bool
-    requires { heads.now ≡ heads_of spec.now }
-    ensures { result ≡ fit_stored spec.now tables.now }
+/// The heads of the stored tables.
+#[tactic(auto, using(crate::proofs::StoredLemmas::heads_split, crate::proofs::StoredLemmas::heads_enough))]
+pub(crate) fn stored_heads(alloc: Global, spec: &Spec) -> Result<Heads, NoMemory>
+    ensures { IfOk result (λ stored. stored ≡ stored_heads spec.now) }
 {
-    if tables.len() != spec.views.len() + spec.relations.len() {
+    let mut all = heads(alloc, spec)?.into_vec();
+    let stored = all.split_off(spec.relations.len())?;
+    Ok(Heads::from_vec(stored))
+}
+
+// Whether there is one table for each head, of its kinds.
+fn fit_heads(stored: &[Head], tables: &[Rows]) -> bool
+    ensures { result ≡ fit_heads stored.now tables.now }
+{
+    if tables.len() != stored.len() {
         return false;
     }
-    for (k, rows) in tables.iter().enumerate() {
-        if !fit_attrs(attrs_at(heads, spec.relations.len() + k), rows.as_slice()) {
+    for k in 0..stored.len() {
+        if !fit_attrs(attrs_at(stored, k), tables[k].as_slice()) {
             return false;
         }
     }
@@ -167,17 +175,15 @@ fn takes(attrs: &[Attr], rows: &[Row], delta: &Delta) -> bool
 }
 
 // Whether there is one delta for each table, which the table takes.
-fn all_take(spec: &Spec, heads: &[Head], tables: &[Rows], deltas: &[Delta]) -> bool
-    requires heads { heads.now ≡ heads_of spec.now }
-    requires ascending { AllByRecursion IsAscending tables.now }
-    ensures { result ≡ all_take spec.now tables.now deltas.now }
+fn all_take(stored: &[Head], tables: &[Rows], deltas: &[Delta]) -> bool
+    requires { AllByRecursion IsAscending tables.now }
+    ensures { result ≡ all_take stored.now tables.now deltas.now }
 {
     if deltas.len() != tables.len() {
         return false;
     }
-    for (k, rows) in tables.iter().enumerate() {
-        let attrs = attrs_at(heads, spec.relations.len() + k);
-        if !takes(attrs, rows.as_slice(), &deltas[k]) {
+    for k in 0..tables.len() {
+        if !takes(attrs_at(stored, k), tables[k].as_slice(), &deltas[k]) {
             return false;
         }
     }
@@ -203,22 +209,23 @@ fn changed_tables(
 }
 
 /// Whether there is one table for each that is stored, of its kinds and with few enough rows.
-pub(crate) fn are_stored_tables(spec: &Spec, heads: &[Head], tables: &[Rows]) -> bool
-    requires { heads.now ≡ heads_of spec.now }
+#[tactic(auto, using(crate::proofs::StoredLemmas::fit_heads_is))]
+pub(crate) fn are_stored_tables(spec: &Spec, stored: &[Head], tables: &[Rows]) -> bool
+    requires { stored.now ≡ stored_heads spec.now }
     ensures { result ≡ are_stored_tables spec.now tables.now }
 {
-    fit_stored(spec, heads, tables) && first_over(tables).is_none()
+    fit_heads(stored, tables) && first_over(tables).is_none()
 }
 
 /// The tables after a change, or None where it breaks a rule.
 pub(crate) fn next_tables(
     alloc: Global,
     spec: &Spec,
-    heads: &[Head],
+    stored: &[Head],
     tables: StoredRows,
     deltas: &StoredDeltas,
 ) -> Result<Option<StoredRows>, NoMemory>
-    requires heads { heads.now ≡ heads_of spec.now }
+    requires stored { stored.now ≡ stored_heads spec.now }
     requires fits { fit_stored spec.now tables ≡ true }
     requires ascending { AllByRecursion IsAscending tables }
     requires spelled { AllByRecursion IsSpelledDelta deltas.now }
@@ -226,7 +233,7 @@ pub(crate) fn next_tables(
     ensures fits { IfOk result (λ next. IfSome next (λ t. fit_stored spec.now t ≡ true)) }
     ensures ascending { IfOk result (λ next. IfSome next (AllByRecursion IsAscending)) }
 {
-    if !all_take(spec, heads, tables.as_slice(), deltas.as_slice()) {
+    if !all_take(stored, tables.as_slice(), deltas.as_slice()) {
         return Ok(None);
     }
     let tables = changed_tables(alloc, tables, deltas.as_slice())?;

@@ -1,6 +1,19 @@
+ghost use Rattle.std.specs.Prelude.{◌≡◌, [], All, IfOk, get_or, length, true};
+ghost use Rattle.std.specs.List.{AllByRecursion};
+ghost use Rattle.wh_base.specs.RowSet.{AreDistinct, SameRows, IsAscending};
+ghost use Rattle.wh_plan.specs.Plan.{IsPlan};
+ghost use Rattle.wh_spec_text.specs.Textual.{IsTextualSpec};
+ghost use Rattle.wh_store.specs.Image.{fit_stored};
+ghost use Rattle.wh_store.specs.Opening.{stored_heads, AreTablesOf};
+ghost use Rattle.wh_store.specs.Warehouse.{IsInForm, HasRows};
+ghost use Rattle.wh_table.specs.Table.{IsColumnSet};
+
+use crate::tables::attrs_at;
+use std::alloc::Global;
+use wh_base::{ColumnSets, Delta, Duplicate, Head, NoMemory, Rows, StoredRows};
 use wh_journal::Journal;
 use wh_plan::Plan;
-use wh_table::Tables;
+use wh_table::{Table, Tables};
 
 /// One of the two files of a store.
 #[derive(Clone, Copy, Debug, PartialEq, Eq)]
@@ -25,4 +38,90 @@ pub struct Place {
     pub journal: Journal,
     /// Whether it may be written at. A disk fault ends that: the store is then opened again.
     pub live: bool,
+}
+
+// The indexed sets of a stored table.
+#[tactic(auto, using(crate::proofs::StoredLemmas::get_or_none))]
+fn indexes_at(alloc: Global, plan: &Plan, k: usize) -> Result<ColumnSets, NoMemory>
+    ensures { IfOk result (λ sets. sets ≡ get_or plan.now.indexes k []) }
+{
+    match plan.indexes.get(k) {
+        Some(sets) => sets.copy(alloc),
+        None => Ok(ColumnSets::new(alloc)),
+    }
+}
+
+// A table with these rows.
+fn table_of(
+    alloc: Global,
+    width: usize,
+    indexes: ColumnSets,
+    rows: Rows,
+) -> Result<Table, NoMemory>
+    requires indexes { All (IsColumnSet width) indexes }
+    requires distinct { AreDistinct rows }
+    ensures rows { IfOk result (λ table. SameRows table.rows rows) }
+    ensures width { IfOk result (λ table. table.width ≡ width) }
+    ensures indexes { IfOk result (λ table. table.indexes ≡ indexes) }
+{
+    let Ok(width) = u32::try_from(width) else {
+        // No memory has rows so wide.
+        return Err(NoMemory);
+    };
+    let mut table = Table::new(alloc, width, indexes)?;
+    let change = Delta {
+        deleted: Rows::new(alloc),
+        inserted: rows,
+    };
+    let prepared = table.prepare(alloc, change)?;
+    table.apply(prepared);
+    Ok(table)
+}
+
+// The stored tables with these rows.
+fn tables_of(
+    alloc: Global,
+    plan: &Plan,
+    stored: &[Head],
+    rows: StoredRows,
+) -> Result<Tables, NoMemory>
+    requires plan { IsPlan plan.now }
+    requires stored { stored.now ≡ stored_heads plan.now.spec }
+    requires ascending { AllByRecursion IsAscending rows }
+    ensures { IfOk result (AreTablesOf plan.now stored.now rows) }
+{
+    let mut tables = Tables::new(alloc);
+    for table_rows in rows.into_vec() {
+        let k = tables.len();
+        let indexes = indexes_at(alloc, plan, k)?;
+        tables.push(table_of(
+            alloc,
+            attrs_at(stored, k).len(),
+            indexes,
+            table_rows,
+        )?)?;
+    }
+    Ok(tables)
+}
+
+/// The warehouse of a plan with these rows in its stored tables.
+pub(crate) fn warehouse_of(
+    alloc: Global,
+    plan: Plan,
+    stored: &[Head],
+    rows: StoredRows,
+    seq: u64,
+) -> Result<Warehouse, NoMemory>
+    requires textual { IsTextualSpec plan.spec }
+    requires plan { IsPlan plan }
+    requires stored { stored.now ≡ stored_heads plan.spec }
+    requires fits { fit_stored plan.spec rows ≡ true }
+    requires ascending { AllByRecursion IsAscending rows }
+    ensures form { IfOk result IsInForm }
+    ensures plan { IfOk result (λ warehouse. warehouse.plan ≡ plan) }
+    ensures rows { IfOk result (HasRows plan.spec rows) }
+    ensures seq { IfOk result (λ warehouse. warehouse.seq ≡ seq) }
+{
+    let tables = tables_of(alloc, &plan, stored, rows)?;
+    Ok(Warehouse { plan, tables, seq })
 }

@@ -1,0 +1,55 @@
+use Rattle.std.proofs.Common.{◌≡◌, ◌∙◌, ℕ, ◌+◌, List, [], ◌∷◌, length, Result, Ok, refl, sym, ap, subst, arith}
+use Rattle.wh_base.specs.declared.value.Value.{Value}
+use Rattle.wh_journal.specs.declared.journal.Journal.{Journal}
+use Rattle.wh_journal.proofs.Framing.{length-framed}
+use Rattle.wh_plan.specs.declared.plan.Plan.{Plan}
+use Rattle.wh_store.specs.Store.{loaded_body}
+use Rattle.wh_store.specs.Warehouse.{HasRows}
+use Rattle.wh_store.proofs.Alone.{created_leaves}
+use Rattle.wh_store.proofs.Loaded.{alone_holds, spelled_snapshot}
+use Rattle.wh_store.proofs.creation.create.Goals as goal
+
+pub returns-in_err-journal-clause-any_moment : goal.returns-in_err-journal-clause-any_moment
+returns-in_err-journal-clause-any_moment g c = λ settled.
+    let spec = c.args.plan.spec in
+    let rows = c.args.rows in
+    let few = c.in_ok-framed.ensures.few in
+    let spelled = spelled_snapshot spec rows c.requires.textual c.requires.tables few c.requires.ascending c.requires.spelled c.in_ok-framed.ensures.short in
+    created_leaves g.D.Disk.moment g.D.Disk.images_since spec rows _ _ _ _ _ _ _ _ c.in_ok-both_empty.ensures.first_same settled c.both_empty.ensures.first_moments
+    (c.write_alone.ensures.any_moment c.in_ok-both_empty.ensures.first_durable)
+    (λ image second frames empty.
+    alone_holds spec rows c.requires.textual c.requires.few c.requires.tables few spelled image second (frames ∙ ap (λ (b : List ℕ). Ok (b ∷ [])) c.in_ok-framed.ensures.frame) empty)
+
+pub returns-clause-any_moment : goal.returns-clause-any_moment
+returns-clause-any_moment g c = λ settled.
+    let spec = c.args.plan.spec in
+    let rows = c.args.rows in
+    let few = c.in_ok-framed.ensures.few in
+    let spelled = spelled_snapshot spec rows c.requires.textual c.requires.tables few c.requires.ascending c.requires.spelled c.in_ok-framed.ensures.short in
+    created_leaves g.D.Disk.moment g.D.Disk.images_since spec rows _ _ _ _ _ _ _ _ c.in_ok-both_empty.ensures.first_same settled c.both_empty.ensures.first_moments
+    (c.write_alone.ensures.any_moment c.in_ok-both_empty.ensures.first_durable)
+    (λ image second frames empty.
+    alone_holds spec rows c.requires.textual c.requires.few c.requires.tables few spelled image second (frames ∙ ap (λ (b : List ℕ). Ok (b ∷ [])) c.in_ok-framed.ensures.frame) empty)
+
+pub returns-clause-made : goal.returns-clause-made
+returns-clause-made g c =
+    let spec = c.args.plan.spec in
+    let rows = c.args.rows in
+    let body = loaded_body spec rows in
+    let framed = c.in_ok-framed.ensures.frame in
+    let journal = c.in_ok-journal.ensures.journal in
+    record {
+      warehouse = record {
+        form = c.in_ok-warehouse.ensures.form;
+        spec = ap (λ (p : Plan). p.spec) c.in_ok-warehouse.ensures.plan;
+        rows = subst (λ (r : List (List (List Value))). HasRows spec r c.in_ok-warehouse.warehouse) c.in_ok-framed.ensures.tables c.in_ok-warehouse.ensures.rows;
+        seq = c.in_ok-warehouse.ensures.seq;
+      };
+      place = λ second. record {
+        which = refl;
+        generation = refl;
+        end = ap (λ (j : Journal). j.end) journal ∙ ap (λ (b : List ℕ). 9 + length b) framed;
+        length = ap (λ (j : Journal). j.length) journal ∙ ap (λ (b : List ℕ). 10 + length b) framed ∙ omega (arith, length-framed body);
+        live = refl;
+      };
+    }
