@@ -3,6 +3,7 @@ pub mod Alone
 pub mod ChangedTables
 mod CommitLemmas
 pub mod FirstByte
+mod FirstRow
 pub mod FrameLemmas
 pub mod Loaded
 pub mod Searches

@@ -21,3 +21,6 @@ pub use fault::StoreFault;
 pub use opening::open_store;
 pub use ready::Ready;
 pub use warehouse::{Place, Warehouse, Which};
+
+#[cfg(test)]
+mod commit_tests;
