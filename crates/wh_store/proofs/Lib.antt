@@ -6,6 +6,7 @@ pub mod FirstByte
 mod FirstRow
 pub mod FrameLemmas
 pub mod Loaded
+pub mod OpenLemmas
 pub mod Searches
 mod SoundFiles
 pub mod StoredLemmas

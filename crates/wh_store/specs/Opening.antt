@@ -119,3 +119,9 @@ IsChosen first second holds (Ok chosen) = (holds ≡ Ok (Some (record { which = 
 IsChosen first second holds (Err fault.NotLoaded) = holds ≡ Ok None
 IsChosen first second holds (Err (fault.Damaged which at)) = holds ≡ Err (record { which = which; at = at })
 IsChosen first second holds (Err other) = ⊥
+
+-- a fault of the disk or of memory, which refuses nothing
+abbrev pub IsNoRefusal : StoreFault → Type 0
+IsNoRefusal fault.DiskFault = Unit {0}
+IsNoRefusal fault.NoMemory = Unit {0}
+IsNoRefusal other = ⊥

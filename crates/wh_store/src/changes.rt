@@ -3,13 +3,11 @@ ghost use Rattle.std.specs.Prelude.{◌≡◌, ◌+◌, ◌-◌, nat_lt, length,
 ghost use Rattle.wh_store.specs.Commit.{CanApplyAll, AreKept, AreChanged, HasRoom, first_over_after};
 ghost use Rattle.wh_store.specs.Image.{row_limit};
 
+use crate::tables::ROW_LIMIT;
 use std::alloc::Global;
 use std::mem;
 use wh_base::{Delta, NoMemory, Sequence, StoredDeltas};
 use wh_table::{Prepared, Table, Tables};
-
-/// The most rows that a stored table may have.
-const MOST_ROWS: usize = 4_000_000;
 
 fn prepare_each(
     alloc: Global,
@@ -72,7 +70,7 @@ fn is_over(table: &Table, delta: &Delta) -> bool
     ensures { result ≡ nat_lt row_limit (length table.now.rows - length delta.now.deleted + length delta.now.inserted) }
 {
     let kept = table.len().saturating_sub(delta.deleted.len());
-    kept.saturating_add(delta.inserted.len()) > MOST_ROWS
+    kept.saturating_add(delta.inserted.len()) > ROW_LIMIT
 }
 
 /// The first table that would have too many rows.

@@ -72,6 +72,7 @@ fn of_snapshot(
 
 // The state after the first frame, or None where it is no snapshot that obeys the rules.
 fn first_state(alloc: Global, body: &ByteText, len: u64) -> Result<Option<Replay>, NoMemory>
+    requires { 9 + length body.now.bytes < 2 ^ 64 }
     ensures image { IfOk result (λ first. option_map image_of first ≡ after_first (end_behind 0 body.now.bytes) (frame_of body.now.bytes)) }
     ensures sound { IfOk result (λ first. IfSome first IsSound) }
     ensures length { IfOk result (λ first. IfSome first (λ r. r.journal.length ≡ len)) }

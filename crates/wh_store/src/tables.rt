@@ -18,7 +18,7 @@ use wh_base::{
 use wh_schema::{Spec, heads};
 
 /// The most rows that a stored table may have.
-const ROW_LIMIT: usize = 4_000_000;
+pub(crate) const ROW_LIMIT: usize = 4_000_000;
 
 /// The first table with too many rows.
 pub(crate) fn first_over(tables: &[Rows]) -> Option<usize>
