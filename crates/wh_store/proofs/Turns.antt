@@ -18,8 +18,7 @@ pub vec_turn : {X A : Type 0} (all : List X) (s t u : IntoIter X A) (yielded : L
     → (length yielded < length all) × ((d : X) → x ≡ get_or all (length yielded) d)
 vec_turn {X} {A} all s t u yielded r x is so_far some step =
     let now = MatchOption-at_some ((into_iter_len t ≡ 0) × (into_iter_len u ≡ 0)) (λ (z : X). (into_iter_items t ≡ z ∷ into_iter_items u) × (into_iter_len u + 1 ≡ into_iter_len t)) x some step in
-    let whole : all ≡ yielded ++ x ∷ into_iter_items u = sym is ∙ taken_front s yielded t so_far ∙ ap (λ (l : List X). yielded ++ l) now.0 in
-    (
+    let whole : all ≡ yielded ++ x ∷ into_iter_items u = sym is ∙ taken_front s yielded t so_far ∙ ap (λ (l : List X). yielded ++ l) now.0 in (
       omega (arith, ap length whole, length-append yielded (x ∷ into_iter_items u)),
       λ d. sym (ap (λ (l : List X). get_or l (length yielded) d) whole ∙ get_or_at yielded x (into_iter_items u) d (length yielded) refl),
     )

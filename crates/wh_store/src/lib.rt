@@ -24,3 +24,6 @@ pub use warehouse::{Place, Warehouse, Which};
 
 #[cfg(test)]
 mod commit_tests;
+
+#[cfg(test)]
+mod tests;

@@ -149,11 +149,7 @@ fn changed(
 }
 
 // The state after a further frame, or None where it is no change that obeys the rules.
-fn next_state(
-    alloc: Global,
-    state: Replay,
-    body: &ByteText,
-) -> Result<Option<Replay>, NoMemory>
+fn next_state(alloc: Global, state: Replay, body: &ByteText) -> Result<Option<Replay>, NoMemory>
     requires sound { IsSound state }
     requires end { state.journal.end + 9 + length body.now.bytes < 2 ^ 64 }
     ensures image { IfOk result (λ next. option_map image_of next ≡ after_frame (image_of state) (end_behind state.journal.end body.now.bytes) (frame_of body.now.bytes)) }

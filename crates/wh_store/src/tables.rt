@@ -13,7 +13,8 @@ ghost use Rattle.wh_store.specs.Opening.{stored_heads, fit_heads, takes, all_tak
 
 use std::alloc::Global;
 use wh_base::{
-    Attr, Delta, Duplicate, Head, Heads, Kind, NoMemory, Row, Rows, StoredDeltas, StoredRows, Value, sort_rows,
+    Attr, Delta, Duplicate, Head, Heads, Kind, NoMemory, Row, Rows, StoredDeltas, StoredRows,
+    Value, sort_rows,
 };
 use wh_schema::{Spec, heads};
 

@@ -52,12 +52,7 @@ fn indexes_at(alloc: Global, plan: &Plan, k: usize) -> Result<ColumnSets, NoMemo
 }
 
 // A table with these rows.
-fn table_of(
-    alloc: Global,
-    width: usize,
-    indexes: ColumnSets,
-    rows: Rows,
-) -> Result<Table, NoMemory>
+fn table_of(alloc: Global, width: usize, indexes: ColumnSets, rows: Rows) -> Result<Table, NoMemory>
     requires indexes { All (IsColumnSet width) indexes }
     requires distinct { AreDistinct rows }
     ensures rows { IfOk result (λ table. SameRows table.rows rows) }
@@ -94,12 +89,7 @@ fn tables_of(
     for table_rows in rows.into_vec() {
         let k = tables.len();
         let indexes = indexes_at(alloc, plan, k)?;
-        tables.push(table_of(
-            alloc,
-            attrs_at(stored, k).len(),
-            indexes,
-            table_rows,
-        )?)?;
+        tables.push(table_of(alloc, attrs_at(stored, k).len(), indexes, table_rows)?)?;
     }
     Ok(tables)
 }
