@@ -1,14 +1,15 @@
 -- The dumps of relations, one after another.
-use Rattle.std.proofs.Common.{◌≡◌, ℕ, zero, suc, ◌+◌, ◌<◌, List, [], ◌∷◌, ◌++◌, length, get_or, drop, Option, None, Some, Result, Ok, Err, IfSome, inr, refl, sym, ◌∙◌, ap, subst, arith}
+use Rattle.std.proofs.Common.{◌≡◌, ℕ, zero, suc, ◌+◌, ◌<◌, ◌≤◌, List, [], ◌∷◌, ◌++◌, length, get_or, drop, Option, None, Some, Result, Ok, Err, IfSome, inr, refl, sym, ◌∙◌, ap, subst, arith, append-nil, append_assoc}
 use Rattle.std.specs.Option.{option_map}
 use Rattle.std.proofs.Math.Seq.{drop-cons}
+use Rattle.std.proofs.lemmas.List.{drop_all}
 use Rattle.wh_io.specs.Files.{Held}
 use Rattle.std.specs.List.{IsDistinct}
 use Rattle.wh_base.specs.RowSet.{AreDistinct}
 use Rattle.wh_load.specs.Load.{HasDistinctRows}
 use Rattle.wh_schema.specs.declared.spec.Relation.{Relation}
 use Rattle.wh_schema.specs.Warehouse.{Row, State}
-use Rattle.whc.specs.Inputs.{and_then, dump_file, dump_files, IsNextDump}
+use Rattle.whc.specs.Inputs.{and_then, dump_file, dump_files, IsDumpOf, AreDumpsOf, IsNextDump}
 use Rattle.whc.specs.Steps.{Settles}
 
 -- one relation more
@@ -65,3 +66,18 @@ found_none dir relations found none (Some h) = ap (λ (s : State). dump_files h 
 pub next_none : (dir : List ℕ) (relations : List Relation) (told : Option Held) → IfSome told (λ (h : Held). (file : List ℕ) → IsNextDump h dir relations file → IsNextDump h dir relations file)
 next_none dir relations None = tt
 next_none dir relations (Some h) = λ file next. next
+
+-- the dumps that were read are those of the relations so far
+pub dumps_none : (relations : List Relation) (found : State) → found ≡ [] → (more : State) → AreDumpsOf relations more → AreDumpsOf relations (found ++ more)
+dumps_none relations found none more dumps = subst (λ (s : State). AreDumpsOf relations (s ++ more)) (sym none) dumps
+
+pub dumps_more : (relations : List Relation) (i : ℕ) (r : Relation) → i < length relations → r ≡ get_or relations i r → (rows : List Row) (found after : State) → after ≡ found ++ rows ∷ []
+    → ((more : State) → AreDumpsOf (drop i relations) more → AreDumpsOf relations (found ++ more)) → IsDumpOf r rows → (more : State) → AreDumpsOf (drop (i + 1) relations) more → AreDumpsOf relations (after ++ more)
+dumps_more relations i r below is rows found after pushed so_far dump more rest =
+    let next = subst (λ (l : List Relation). AreDumpsOf l (rows ∷ more)) (sym (rest_is relations i r below is)) (dump, rest) in
+    subst (AreDumpsOf relations) (sym (append_assoc found (rows ∷ []) more) ∙ ap (λ (s : State). s ++ more) (sym pushed)) (so_far (rows ∷ more) next)
+
+pub dumps_over : (relations : List Relation) (i : ℕ) (found : State) → length relations ≤ i → ((more : State) → AreDumpsOf (drop i relations) more → AreDumpsOf relations (found ++ more)) → AreDumpsOf relations found
+dumps_over relations i found over so_far =
+    let none : AreDumpsOf (drop i relations) [] = subst (λ (l : List Relation). AreDumpsOf l []) (sym (drop_all i relations over)) tt in
+    subst (AreDumpsOf relations) (append-nil found) (so_far [] none)

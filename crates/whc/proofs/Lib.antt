@@ -1,7 +1,15 @@
+pub mod Asks
+pub mod Commands
+pub mod Counts
 pub mod Dumps
+pub mod Fitting
 pub mod Follows
+pub mod Loaded
+pub mod Loads
+pub mod Making
 pub mod Numbered
+pub mod Ready
 pub mod Shown
 pub mod Shows
-pub mod SpecRules
+pub mod Stores
 pub mod Texts

@@ -5,7 +5,6 @@ use Rattle.wh_csv.specs.declared.fault.CsvFault.TheVariants as csv
 use Rattle.wh_csv.specs.Dump.{dump_of}
 use Rattle.wh_io.specs.Files.{Held}
 use Rattle.wh_io.specs.Sink.{gained}
-use Rattle.wh_load.specs.Load.{first_over}
 use Rattle.wh_plan.specs.declared.plan.PlanFault.{PlanFault}
 use Rattle.wh_plan.specs.declared.plan.PlanFault.TheVariants as plan
 use Rattle.wh_plan.specs.Plan.{too_many}
@@ -25,11 +24,12 @@ use Rattle.whc.specs.Commands.{show, expected}
 use Rattle.whc.specs.Ends.{Ends}
 use Rattle.whc.specs.Inputs.{and_then, file_of, parsed, planned, spec_in, spec_file, dump_name, dumped, dump_in, dump_file, dump_files}
 use Rattle.whc.specs.Laws.{Sources, ShowsStored, TellsBroken, show_words}
-use Rattle.whc.specs.Outcome.{World, texts, stays, image}
+use Rattle.whc.specs.Outcome.{texts, stays}
+use Rattle.wh_store.specs.Image.{Holding, holding, first_over}
 use Rattle.whc.specs.Run.{Scene, Reports, Answers}
 use Rattle.whc.specs.Show.{table_texts, tables_within, tables_unless, tables_of, shown_of}
 use Rattle.whc.specs.Stop.{status_of, unwritten, line_of, WritesLine}
-use Rattle.whc.proofs.Follows.{ends_of}
+use Rattle.whc.proofs.Follows.{finishes_of, apart_from_disks}
 use Rattle.whc.proofs.Texts.{joined, all_texts}
 
 -- ---- which step refuses
@@ -106,7 +106,7 @@ module _ (held : Held) (spec_name dir : List ℕ) where
   abbrev printing : Shown → Result (List (List ℕ)) Stop
   printing s = Ok (table_texts s)
 
-  module _ (start : World) (before after : Option (List ℕ)) where
+  module _ (start : Holding) (before after : Option (List ℕ)) where
     abbrev Prints : Result Shown Stop → Type 0
     Prints found = IfOk found (λ s. after ≡ gained before (joined (table_texts s)))
 
@@ -126,7 +126,7 @@ module _ (held : Held) (spec_name dir : List ℕ) where
     shows (Ok s) answer is finish printed = let at = sources_of (Ok s) refl is in stored_of at.0 s at.1 (printed ∙ ap (gained before) (all_texts start (table_texts s)))
     shows (Err stop) answer is finish printed = absurd (cc (finish))
 
-  module _ (start : World) (before after : Option (List ℕ)) where
+  module _ (start : Holding) (before after : Option (List ℕ)) where
     abbrev Told : {T : Type 0} → Result T Stop → Type 0
     Told (Ok value) = Unit {0}
     Told (Err stop) = after ≡ gained before (line_of stop)
@@ -151,7 +151,7 @@ module _ (held : Held) (spec_name dir : List ℕ) where
 
 -- ---- the status
 
-never_ok : (stop : Stop) (failed : Bool) → status.Ok ≡ (if failed then unwritten (status_of stop) else status_of stop) → ⊥
+pub never_ok : (stop : Stop) (failed : Bool) → status.Ok ≡ (if failed then unwritten (status_of stop) else status_of stop) → ⊥
 never_ok Usage true is = absurd (cc (is))
 never_ok Usage false is = absurd (cc (is))
 never_ok other true is = absurd (cc (is))
@@ -165,22 +165,26 @@ refused_by (Refused words) false before after is bytes = (words, refl, bytes)
 refused_by other true before after is bytes = absurd (cc (is))
 refused_by other false before after is bytes = absurd (cc (is))
 
-module _ (spec_name dir : List ℕ) (held : Held) (before after : Scene) (told : before.held ≡ Some held) where
-  abbrev start : World
-  start = image [] []
+module _ {D : Type 0} (content : D → Option (List ℕ)) (faults : D → ℕ) (images : D → List ℕ → Type 0) (spec_name dir : List ℕ) (held : Held) (before after : Scene D) (told : before.view.held ≡ Some held) where
+  abbrev start : Holding
+  start = holding [] []
 
   abbrev EndsHere : Result Status Stop → Type 0
-  EndsHere finish = Ends (expected (show spec_name dir) held start) (λ (w : World). w ≡ start) (λ (_ _ : World). ⊥) before.out after.out finish
+  EndsHere finish = Ends (expected (show spec_name dir) held start) (λ (w : Holding). w ≡ start) (λ (_ _ : Holding). ⊥) before.view.out after.view.out finish
 
-  pub prints_stored : Answers (show_words spec_name dir) before after status.Ok → ShowsStored held spec_name dir before.out after.out
-  prints_stored answers = by_finish answers.finish (ends_of (show spec_name dir) held start (show_words spec_name dir) before after status.Ok refl told answers) answers.reports
+  ends_here : (result : Status) (answers : Answers content faults images (show_words spec_name dir) before after result) → EndsHere answers.finish
+  ends_here result answers =
+      apart_from_disks content images (show spec_name dir) held start before.view after.view answers.finish told (finishes_of content faults images (show_words spec_name dir) (show spec_name dir) before after result refl answers) refl
+
+  pub prints_stored : Answers content faults images (show_words spec_name dir) before after status.Ok → ShowsStored held spec_name dir before.view.out after.view.out
+  prints_stored answers = by_finish answers.finish (ends_here status.Ok answers) answers.reports
     where
-      by_finish : (finish : Result Status Stop) → EndsHere finish → Reports finish before after status.Ok → ShowsStored held spec_name dir before.out after.out
-      by_finish (Ok answer) ends reports = shows held spec_name dir start before.out after.out (shown_of held spec_name dir) answer refl ends.finish_is ends.printed
+      by_finish : (finish : Result Status Stop) → EndsHere finish → Reports finish before after status.Ok → ShowsStored held spec_name dir before.view.out after.view.out
+      by_finish (Ok answer) ends reports = shows held spec_name dir start before.view.out after.view.out (shown_of held spec_name dir) answer refl ends.finish_is ends.printed
       by_finish (Err stop) ends reports = absurd (never_ok stop reports.err_failed reports.status)
 
-  pub refuses_broken : Answers (show_words spec_name dir) before after status.Refused → TellsBroken held spec_name dir before.err after.err
-  refuses_broken answers = by_finish answers.finish (ends_of (show spec_name dir) held start (show_words spec_name dir) before after status.Refused refl told answers) answers.finishes.done answers.reports
+  pub refuses_broken : Answers content faults images (show_words spec_name dir) before after status.Refused → TellsBroken held spec_name dir before.err after.err
+  refuses_broken answers = by_finish answers.finish (ends_here status.Refused answers) answers.finishes.done answers.reports
     where
       by_finish : (finish : Result Status Stop) → EndsHere finish → IfOk finish (λ answer. answer ≡ status.Ok) → Reports finish before after status.Refused → TellsBroken held spec_name dir before.err after.err
       by_finish (Ok answer) ends done reports = absurd (cc (done, reports.0))

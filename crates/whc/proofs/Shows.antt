@@ -7,8 +7,9 @@ use Rattle.wh_io.proofs.Gained.{gained_nothing}
 use Rattle.wh_schema.specs.Warehouse.{Row}
 use Rattle.whc.specs.declared.status.Status.{Status}
 use Rattle.whc.specs.declared.stop.Stop.{Stop}
-use Rattle.whc.specs.declared.stop.Stop.TheVariants.{Refused, Usage, BadSpec, BadInput, ReadFault, WriteFault, DiskFault, Limit, NoMemory, NoFile}
-use Rattle.whc.specs.Outcome.{World, stays}
+use Rattle.whc.specs.declared.stop.Stop.TheVariants.{Refused, Usage, BadSpec, BadInput, BadQuery, ReadFault, WriteFault, DiskFault, NotLoaded, AlreadyLoaded, Damaged, Limit, NoMemory, NoFile}
+use Rattle.whc.specs.Outcome.{stays}
+use Rattle.wh_store.specs.Image.{Holding}
 use Rattle.whc.specs.Ends.{Ends, EndsWhole}
 use Rattle.wh_schema.specs.declared.spec.Spec.{Spec}
 use Rattle.whc.specs.Inputs.{and_then, spec_file}
@@ -34,48 +35,52 @@ module _ {T : Type 0} (lines : T → List (List ℕ)) where
   abbrev printing : T → Result (List (List ℕ)) Stop
   printing x = Ok (lines x)
 
-  begins : (start : World) (wanted : Result T Stop) → (stays start (and_then wanted printing)).start ≡ start
+  begins : (start : Holding) (wanted : Result T Stop) → (stays start (and_then wanted printing)).start ≡ start
   begins start (Ok x) = refl
   begins start (Err e) = refl
 
-  refuses : (start : World) (before : Option (List ℕ)) (wanted : Result T Stop) (stop : Stop) → wanted ≡ Err stop
-      → EndsWhole (stays start (and_then wanted printing)) (λ (s : World). s ≡ start) before before (Err stop)
+  refuses : (start : Holding) (before : Option (List ℕ)) (wanted : Result T Stop) (stop : Stop) → wanted ≡ Err stop
+      → EndsWhole (stays start (and_then wanted printing)) (λ (s : Holding). s ≡ start) before before (Err stop)
   refuses start before wanted stop is =
-      subst (λ (r : Result T Stop). EndsWhole (stays start (and_then r printing)) (λ (s : World). s ≡ start) before before (Err stop)) (sym is)
+      subst (λ (r : Result T Stop). EndsWhole (stays start (and_then r printing)) (λ (s : Holding). s ≡ start) before before (Err stop)) (sym is)
       (record { finish_is = refl; printed = sym (gained_nothing before); state = refl })
 
   -- a stop before anything is printed
-  pub stopped : (start : World) (before : Option (List ℕ)) (wanted : Result T Stop) (stop : Stop) → BlamesFiles {T = T} (Err stop) → Settles (Some wanted) (Err stop)
-      → Ends (stays start (and_then wanted printing)) (λ (s : World). s ≡ start) (λ (_ _ : World). ⊥) before before (Err stop)
+  pub stopped : (start : Holding) (before : Option (List ℕ)) (wanted : Result T Stop) (stop : Stop) → BlamesFiles {T = T} (Err stop) → Settles (Some wanted) (Err stop)
+      → Ends (stays start (and_then wanted printing)) (λ (s : Holding). s ≡ start) (λ (_ _ : Holding). ⊥) before before (Err stop)
   stopped start before wanted (ReadFault file) blames settles = record { k = 0; within = omega arith; printed = sym (gained_nothing before); state = begins start wanted }
   stopped start before wanted NoMemory blames settles = record { k = 0; within = omega arith; printed = sym (gained_nothing before); state = begins start wanted }
   stopped start before wanted WriteFault blames settles = absurd (cc (blames.no_write))
-  stopped start before wanted DiskFault blames settles = absurd (cc (blames.no_disk))
+  stopped start before wanted DiskFault blames settles = absurd (cc (blames.no_store))
+  stopped start before wanted NotLoaded blames settles = absurd (cc (blames.no_store))
+  stopped start before wanted AlreadyLoaded blames settles = absurd (cc (blames.no_store))
+  stopped start before wanted (Damaged words) blames settles = absurd (cc (blames.no_store))
   stopped start before wanted (Refused words) blames settles = refuses start before wanted (Refused words) settles
   stopped start before wanted Usage blames settles = refuses start before wanted Usage settles
   stopped start before wanted (BadSpec words) blames settles = refuses start before wanted (BadSpec words) settles
   stopped start before wanted (BadInput words) blames settles = refuses start before wanted (BadInput words) settles
+  stopped start before wanted (BadQuery words) blames settles = refuses start before wanted (BadQuery words) settles
   stopped start before wanted (Limit words) blames settles = refuses start before wanted (Limit words) settles
   stopped start before wanted (NoFile file) blames settles = refuses start before wanted (NoFile file) settles
 
 -- the command `show` stops before anything is printed
 pub show_stops : (held : Option Held) (spec_name dir : List ℕ) (before : Option (List ℕ)) (stop : Stop) → BlamesFiles {T = Shown} (Err stop)
     → Settles (option_map (λ (h : Held). shown_of h spec_name dir) held) (Err stop)
-    → IfSome held (λ (h : Held). (start : World) → Ends (stays start (show_texts h spec_name dir)) (λ (s : World). s ≡ start) (λ (_ _ : World). ⊥) before before (Err stop))
+    → IfSome held (λ (h : Held). (start : Holding) → Ends (stays start (show_texts h spec_name dir)) (λ (s : Holding). s ≡ start) (λ (_ _ : Holding). ⊥) before before (Err stop))
 show_stops None spec_name dir before stop blames settles = tt
 show_stops (Some h) spec_name dir before stop blames settles = λ start. stopped table_texts start before (shown_of h spec_name dir) stop blames settles
 
 -- and so does the command `plan`
 pub plan_stops : (held : Option Held) (spec_name : List ℕ) (before : Option (List ℕ)) (stop : Stop) → BlamesFiles {T = Spec} (Err stop)
     → Settles (option_map (λ (h : Held). spec_file h spec_name) held) (Err stop)
-    → IfSome held (λ (h : Held). (start : World) → Ends (stays start (plan_texts h spec_name)) (λ (s : World). s ≡ start) (λ (_ _ : World). ⊥) before before (Err stop))
+    → IfSome held (λ (h : Held). (start : Holding) → Ends (stays start (plan_texts h spec_name)) (λ (s : Holding). s ≡ start) (λ (_ _ : Holding). ⊥) before before (Err stop))
 plan_stops None spec_name before stop blames settles = tt
 plan_stops (Some h) spec_name before stop blames settles = λ start. stopped plan_lines start before (spec_file h spec_name) stop blames settles
 
 -- the plan is there, and is printed
 pub plan_prints : (held : Option Held) (spec_name : List ℕ) (before after : Option (List ℕ)) (spec : Spec) (finish : Result Status Stop) → Settles (option_map (λ (h : Held). spec_file h spec_name) held) (Ok spec)
-    → ((start : World) → Ends (stays start (Ok (plan_lines spec))) (λ (s : World). s ≡ start) (λ (_ _ : World). ⊥) before after finish)
-    → IfSome held (λ (h : Held). (start : World) → Ends (stays start (plan_texts h spec_name)) (λ (s : World). s ≡ start) (λ (_ _ : World). ⊥) before after finish)
+    → ((start : Holding) → Ends (stays start (Ok (plan_lines spec))) (λ (s : Holding). s ≡ start) (λ (_ _ : Holding). ⊥) before after finish)
+    → IfSome held (λ (h : Held). (start : Holding) → Ends (stays start (plan_texts h spec_name)) (λ (s : Holding). s ≡ start) (λ (_ _ : Holding). ⊥) before after finish)
 plan_prints None spec_name before after spec finish settles ends = tt
 plan_prints (Some h) spec_name before after spec finish settles ends = λ start.
-    subst (λ (r : Result Spec Stop). Ends (stays start (and_then r (printing plan_lines))) (λ (s : World). s ≡ start) (λ (_ _ : World). ⊥) before after finish) (sym settles) (ends start)
+    subst (λ (r : Result Spec Stop). Ends (stays start (and_then r (printing plan_lines))) (λ (s : Holding). s ≡ start) (λ (_ _ : Holding). ⊥) before after finish) (sym settles) (ends start)

@@ -7,9 +7,10 @@ use Rattle.wh_io.specs.Sink.{gained, GainsPrefix}
 use Rattle.wh_io.proofs.Gained.{gained_twice}
 use Rattle.whc.specs.declared.status.Status.TheVariants as status
 use Rattle.whc.specs.declared.stop.Stop.{Stop}
-use Rattle.whc.specs.declared.stop.Stop.TheVariants.{Refused, Usage, BadSpec, BadInput, ReadFault, WriteFault, DiskFault, Limit, NoMemory, NoFile}
+use Rattle.whc.specs.declared.stop.Stop.TheVariants.{Refused, Usage, BadSpec, BadInput, BadQuery, ReadFault, WriteFault, DiskFault, NotLoaded, AlreadyLoaded, Damaged, Limit, NoMemory, NoFile}
 use Rattle.whc.specs.Steps.{Writes}
-use Rattle.whc.specs.Outcome.{World, Piece, texts, text_at, state_after, last_state, stays}
+use Rattle.whc.specs.Outcome.{Piece, texts, text_at, state_after, last_state, stays}
+use Rattle.wh_store.specs.Image.{Holding}
 use Rattle.whc.specs.Ends.{Ends}
 
 abbrev pub joined : List (List ℕ) → List ℕ
@@ -30,7 +31,7 @@ gained_more rows i text before middle after below is so_far wrote =
     next : (n : ℕ) → joined (take (suc n) rows) ≡ joined (take (n + 1) rows)
     next n = let one : suc n ≡ n + 1 = omega arith in ap (λ (m : ℕ). joined (take m rows)) one
 
-module _ (start : World) where
+module _ (start : Holding) where
   abbrev row_piece : List ℕ → Piece
   row_piece row = record { text = row; state = start }
 
@@ -65,7 +66,7 @@ module _ (start : World) where
 
   -- all texts are written
   pub texts_done : (rows : List (List ℕ)) (i : ℕ) (before after : Option (List ℕ)) → length rows ≤ i → after ≡ gained before (joined (take i rows))
-      → Ends (stays start (Ok rows)) (λ (s : World). s ≡ start) (λ (_ _ : World). ⊥) before after (Ok status.Ok)
+      → Ends (stays start (Ok rows)) (λ (s : Holding). s ≡ start) (λ (_ _ : Holding). ⊥) before after (Ok status.Ok)
   texts_done rows i before after over taken = record {
     finish_is = refl;
     printed = taken ∙ ap (λ (l : List (List ℕ)). gained before (joined l)) (take_all i rows over) ∙ ap (gained before) (sym (all_texts rows));
@@ -75,7 +76,7 @@ module _ (start : World) where
   -- text i is not, or not wholly
   pub texts_cut : (rows : List (List ℕ)) (i : ℕ) (text : List ℕ) (before middle after : Option (List ℕ)) (stop : Stop) → i < length rows → text ≡ get_or rows i []
       → middle ≡ gained before (joined (take i rows)) → Writes {T = Unit {0}} text middle after (Err stop)
-      → Ends (stays start (Ok rows)) (λ (s : World). s ≡ start) (λ (_ _ : World). ⊥) before after (Err stop)
+      → Ends (stays start (Ok rows)) (λ (s : Holding). s ≡ start) (λ (_ _ : Holding). ⊥) before after (Err stop)
   texts_cut rows i text before middle after NoMemory below is taken writes = record {
     k = i;
     within = omega (arith, row_count rows);
@@ -91,10 +92,14 @@ module _ (start : World) where
   }
   texts_cut rows i text before middle after (ReadFault file) below is taken writes = absurd writes
   texts_cut rows i text before middle after DiskFault below is taken writes = absurd writes
+  texts_cut rows i text before middle after NotLoaded below is taken writes = absurd writes
+  texts_cut rows i text before middle after AlreadyLoaded below is taken writes = absurd writes
+  texts_cut rows i text before middle after (Damaged words) below is taken writes = absurd writes
   texts_cut rows i text before middle after (Refused words) below is taken writes = absurd writes
   texts_cut rows i text before middle after Usage below is taken writes = absurd writes
   texts_cut rows i text before middle after (BadSpec words) below is taken writes = absurd writes
   texts_cut rows i text before middle after (BadInput words) below is taken writes = absurd writes
+  texts_cut rows i text before middle after (BadQuery words) below is taken writes = absurd writes
   texts_cut rows i text before middle after (Limit words) below is taken writes = absurd writes
   texts_cut rows i text before middle after (NoFile file) below is taken writes = absurd writes
 

@@ -69,6 +69,22 @@ abbrev pub dump_files : Held → List ℕ → State → List Relation → Result
 dump_files held dir found [] = Ok found
 dump_files held dir found (r ∷ rs) = and_then (dump_file held dir r) (λ rows. dump_files held dir (found ++ rows ∷ []) rs)
 
+-- ---- where they come from
+
+-- some text gives the specification
+abbrev pub IsFromText : Spec → Type 0
+IsFromText spec = (text : List ℕ) × (spec_of_text text ≡ Ok spec)
+
+-- some text gives the rows as a dump of the relation
+abbrev pub IsDumpOf : Relation → List Row → Type 0
+IsDumpOf r rows = (text : List ℕ) × (dump_of text r.attrs ≡ Ok rows)
+
+-- each relation has such rows
+abbrev pub AreDumpsOf : List Relation → State → Type 0
+AreDumpsOf [] [] = Unit {0}
+AreDumpsOf (r ∷ rs) (rows ∷ s) = IsDumpOf r rows × AreDumpsOf rs s
+AreDumpsOf relations s = ⊥
+
 -- the file is the dump of a relation, and those before it were read and taken
 abbrev pub IsNextDump : Held → List ℕ → List Relation → List ℕ → Type 0
 IsNextDump held dir [] file = ⊥

@@ -1,7 +1,10 @@
+pub mod Ask
 pub mod Commands
+pub mod Disks
 pub mod Ends
 pub mod Inputs
 pub mod Laws
+pub mod Load
 pub mod Outcome
 pub mod Plan
 pub mod Run

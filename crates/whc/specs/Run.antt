@@ -1,53 +1,95 @@
 -- What a run of the program answers.
-use Rattle.std.specs.Prelude.{◌≡◌, ◌≤◌, ℕ, Bool, true, false, List, Option, None, Some, IfSome, IfOk, Result, Ok, Err}
-use Rattle.wh_io.specs.Causes.{Rose, IsCounted}
+use Rattle.std.specs.Prelude.{◌≡◌, ◌≤◌, ℕ, Bool, true, false, List, Option, None, Some, IfSome, IfOk, OnOk, Result, Ok, Err}
+use Rattle.wh_io.specs.Causes.{Rose, IsCounted, IsCountedPair}
 use Rattle.wh_io.specs.Files.{Held}
+use Rattle.wh_store.specs.Image.{Holding}
 use Rattle.whc.specs.declared.status.Status.{Status}
 use Rattle.whc.specs.declared.stop.Stop.{Stop}
 use Rattle.whc.specs.declared.stop.Stop.TheVariants.{Usage}
-use Rattle.whc.specs.Commands.{Command, show, plan, command_of, expected, IsEndStatus}
+use Rattle.whc.specs.Commands.{Command, show, plan, load, query, dump, is_apart, command_of, expected, expected_of, IsEndStatus}
+use Rattle.whc.specs.Disks.{BothRest, BothLeave, CrashReaches}
 use Rattle.whc.specs.Ends.{Ends}
 use Rattle.whc.specs.Inputs.{IsNextFile}
-use Rattle.whc.specs.Outcome.{World}
-use Rattle.whc.specs.Steps.{NamesRead, is_usage, is_read_fault, is_write_fault, is_disk_fault}
+use Rattle.whc.specs.Load.{loading, IsReadByLoad, HoldsSnapshot}
+use Rattle.whc.specs.Outcome.{Outcome}
+use Rattle.whc.specs.Steps.{NamesRead, is_usage, is_store_stop, is_read_fault, is_write_fault, is_disk_fault}
 use Rattle.whc.specs.Stop.{IsTold}
 
--- the file whose reading may fail
-abbrev pub IsReadBy : Command → Held → List ℕ → Type 0
-IsReadBy (show spec_name dir) held file = IsNextFile held spec_name dir file
-IsReadBy (plan spec_name) held file = file ≡ spec_name
+-- the file whose reading may fail, over what the store holds
+abbrev pub IsReadBy : Command → Held → Holding → List ℕ → Type 0
+IsReadBy (show spec_name dir) held start = IsNextFile held spec_name dir
+IsReadBy (plan spec_name) held start = λ file. file ≡ spec_name
+IsReadBy (load spec_name dir) held start = IsReadByLoad held spec_name dir start
+IsReadBy (query text) held start = λ file. ⊥
+IsReadBy (dump word) held start = λ file. ⊥
 
--- How a command ends, where the files tell what they hold: in one of the ways that its outcome allows. The disks are as before.
-pub record EndsAs (command : Command) (held : Option Held) (before after : Option (List ℕ)) (finish : Result Status Stop) : Type 0 where
+-- what is seen, at one moment, of the things that a command works on
+pub record View (D : Type 0) : Type 0 where
+  pub held : Option Held
+  pub out : Option (List ℕ)
+  pub first : D
+  pub second : D
+
+-- A command ended in one of the ways that its outcome allows, and a fault of reading names a file that it had come to.
+pub record EndsFrom (command : Command) (held : Held) (start : Holding) (Rests : Holding → Type 0) (Leaves : Holding → Holding → Type 0) (before after : Option (List ℕ)) (finish : Result Status Stop) : Type 0 where
+  pub ends : Ends (expected command held start) Rests Leaves before after finish
+  pub names : NamesRead (IsReadBy command held start) finish
+
+-- A command that works apart from the store leaves both disks as they were, blames none, and ends as its outcome allows whatever the
+-- store holds.
+pub record EndsApart {D : Type 0} (command : Command) (before after : View D) (finish : Result Status Stop) : Type 0 where
+  pub no_store : is_store_stop finish ≡ false
+  pub first : after.first ≡ before.first
+  pub second : after.second ≡ before.second
+  pub from : IfSome before.held (λ held. (start : Holding) → EndsFrom command held start (λ state. state ≡ start) (λ _ _. ⊥) before.out after.out finish)
+
+-- What a command leaves in the files, byte by byte: after a load the first is one snapshot of what was loaded. No load writes the second,
+-- and what only prints rows of the store writes neither.
+abbrev pub LeavesBytes : {D : Type 0} → (D → Option (List ℕ)) → Command → Held → Holding → View D → View D → Result Status Stop → Type 0
+LeavesBytes content (load spec_name dir) held start before after finish = OnOk finish (HoldsSnapshot (loading held spec_name dir start) (content after.first)) × (content after.second ≡ content before.second)
+LeavesBytes content (query text) held start before after finish = (content after.first ≡ content before.first) × (content after.second ≡ content before.second)
+LeavesBytes content (dump word) held start before after finish = (content after.first ≡ content before.first) × (content after.second ≡ content before.second)
+LeavesBytes content other held start before after finish = Unit {0}
+
+-- How a command ends: where the files tell what they hold, and nothing is pending on the disks, in one of the ways that its outcome
+-- allows.
+pub record EndsAs {D : Type 0} (content : D → Option (List ℕ)) (images : D → List ℕ → Type 0) (command : Command) (before after : View D) (finish : Result Status Stop) : Type 0 where
   pub no_usage : is_usage finish ≡ false
   pub done : IfOk finish (IsEndStatus command)
-  pub ends : IfSome held (λ files. (start : World) → Ends (expected command files start) (λ state. state ≡ start) (λ _ _. ⊥) before after finish)
-  pub read_name : IfSome held (λ files. NamesRead (IsReadBy command files) finish)
+  pub from : IfSome before.held (λ held. (start : Holding) → BothRest content images before.first before.second start
+      → EndsFrom command held start (BothRest content images after.first after.second) (BothLeave images after.first after.second) before.out after.out finish)
+  pub apart : is_apart command ≡ true → EndsApart command before after finish
+  pub bytes : IfSome before.held (λ held. (start : Holding) → BothRest content images before.first before.second start → LeavesBytes content command held start before after finish)
 
 -- how words end: by Usage exactly where they name no command
-abbrev pub Finishes : Option Command → Option Held → Option (List ℕ) → Option (List ℕ) → Result Status Stop → Type 0
-Finishes None held before after finish = (finish ≡ Err Usage) × (after ≡ before)
-Finishes (Some command) held before after finish = EndsAs command held before after finish
+abbrev pub Finishes : {D : Type 0} → (D → Option (List ℕ)) → (D → List ℕ → Type 0) → Option Command → View D → View D → Result Status Stop → Type 0
+Finishes content images None before after finish = (finish ≡ Err Usage) × (after.out ≡ before.out) × (after.first ≡ before.first) × (after.second ≡ before.second)
+Finishes content images (Some command) before after finish = EndsAs content images command before after finish
 
--- what is seen, at one moment, of the things that a run is handed
-pub record Scene : Type 0 where
-  pub held : Option Held
+-- Where the files tell what they hold, and nothing was pending on the disks, a crash at any moment since entry leaves a state that some
+-- first pieces of what the words come to lead to.
+abbrev pub Crashes : {D : Type 0} → (D → Option (List ℕ)) → (D → List ℕ → Type 0) → (D → ℕ) → (D → ℕ → List ℕ → Type 0) → Option Command → Option Held → D → D → D → D → Type 0
+Crashes content images moment images_since named held first_old first_new second_old second_new =
+    IfSome held (λ files. (start : Holding) → BothRest content images first_old second_old start → CrashReaches moment images_since (expected_of named files start) first_old first_new second_old second_new)
+
+-- and the counts of faults, and `err`
+pub record Scene (D : Type 0) : Type 0 where
+  pub view : View D
   pub files_faults : ℕ
-  pub out : Option (List ℕ)
   pub out_faults : ℕ
   pub err : Option (List ℕ)
   pub err_faults : ℕ
 
 -- the status and what stands on `err`, from how the command ended
-abbrev pub Reports : Result Status Stop → Scene → Scene → Status → Type 0
+abbrev pub Reports : {D : Type 0} → Result Status Stop → Scene D → Scene D → Status → Type 0
 Reports (Ok status) before after result = (result ≡ status) × (after.err ≡ before.err) × (after.err_faults ≡ before.err_faults)
 Reports (Err stop) before after result = IsTold stop before.err after.err before.err_faults after.err_faults result
 
 -- A run of words: how it ended, the counts that rose by that, and what was told of it.
-pub record Answers (words : List (List ℕ)) (before after : Scene) (result : Status) : Type 0 where
+pub record Answers {D : Type 0} (content : D → Option (List ℕ)) (faults : D → ℕ) (images : D → List ℕ → Type 0) (words : List (List ℕ)) (before after : Scene D) (result : Status) : Type 0 where
   pub finish : Result Status Stop
-  pub finishes : Finishes (command_of words) before.held before.out after.out finish
+  pub finishes : Finishes content images (command_of words) before.view after.view finish
   pub read : IsCounted (is_read_fault finish) before.files_faults after.files_faults
   pub write : IsCounted (is_write_fault finish) before.out_faults after.out_faults
-  pub disk : is_disk_fault finish ≡ false
+  pub disk : IsCountedPair (is_disk_fault finish) (faults before.view.first) (faults after.view.first) (faults before.view.second) (faults after.view.second)
   pub reports : Reports finish before after result

@@ -2,11 +2,11 @@
 use Rattle.std.specs.Prelude.{ℕ, ◌-◌, nat_lt, if◌then◌else◌, List, [], ◌++◌, length, map, get_or, Option, None, Some, Result, Ok, Err, codes, decimal}
 use Rattle.wh_base.specs.Lines.{line, csv_text}
 use Rattle.wh_io.specs.Files.{Held}
-use Rattle.wh_load.specs.Load.{first_over}
 use Rattle.wh_schema.specs.declared.broken.Broken.{Broken}
 use Rattle.wh_schema.specs.declared.spec.Spec.{Spec}
 use Rattle.wh_schema.specs.Constraints.{broken}
 use Rattle.wh_schema.specs.Warehouse.{Row, State, relation_at, view_at, columns_of, numbers, stored}
+use Rattle.wh_store.specs.Image.{first_over}
 use Rattle.whc.specs.declared.show.Shown.{Shown}
 use Rattle.whc.specs.declared.stop.Stop.{Stop}
 use Rattle.whc.specs.declared.stop.Stop.TheVariants.{Refused, Limit}

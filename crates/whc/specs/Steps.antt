@@ -4,7 +4,7 @@ use Rattle.wh_io.specs.Sink.{gained, GainsPrefix}
 use Rattle.wh_plan.specs.declared.plan.Plan.{Plan}
 use Rattle.wh_schema.specs.declared.spec.Spec.{Spec}
 use Rattle.whc.specs.declared.stop.Stop.{Stop}
-use Rattle.whc.specs.declared.stop.Stop.TheVariants.{Usage, ReadFault, WriteFault, DiskFault, NoMemory}
+use Rattle.whc.specs.declared.stop.Stop.TheVariants.{Usage, ReadFault, WriteFault, DiskFault, NotLoaded, AlreadyLoaded, Damaged, NoMemory}
 
 -- a fault of a device or want of memory, which no definition of an outcome names
 abbrev pub is_outside : Stop → Bool
@@ -34,17 +34,26 @@ is_disk_fault (Err DiskFault) = true
 is_disk_fault (Err other) = false
 is_disk_fault (Ok value) = false
 
--- a step that only reads files blames neither a sink nor a disk, nor the words
+-- what only a command on a store answers
+abbrev pub is_store_stop : {T : Type 0} → Result T Stop → Bool
+is_store_stop (Err DiskFault) = true
+is_store_stop (Err NotLoaded) = true
+is_store_stop (Err AlreadyLoaded) = true
+is_store_stop (Err (Damaged words)) = true
+is_store_stop (Err other) = false
+is_store_stop (Ok value) = false
+
+-- a step that only reads files blames neither a sink nor a store, nor the words
 pub record BlamesFiles {T : Type 0} (result : Result T Stop) : Type 0 where
   pub no_write : is_write_fault result ≡ false
-  pub no_disk : is_disk_fault result ≡ false
+  pub no_store : is_store_stop result ≡ false
   pub no_usage : is_usage result ≡ false
 
 -- a step that touches nothing outside blames no device
 pub record BlamesNone {T : Type 0} (result : Result T Stop) : Type 0 where
   pub no_read : is_read_fault result ≡ false
   pub no_write : is_write_fault result ≡ false
-  pub no_disk : is_disk_fault result ≡ false
+  pub no_store : is_store_stop result ≡ false
   pub no_usage : is_usage result ≡ false
 
 -- a fault of reading names a file of this kind
@@ -74,3 +83,14 @@ Writes text before after (Ok value) = after ≡ gained before text
 Writes text before after (Err WriteFault) = GainsPrefix before after text
 Writes text before after (Err NoMemory) = after ≡ before
 Writes text before after (Err other) = ⊥
+
+-- a claim of all but a fault of a disk
+abbrev pub UnlessDisk : {T : Type 0} → Result T Stop → Type 0 → Type 0
+UnlessDisk (Err DiskFault) P = Unit {0}
+UnlessDisk result P = P
+
+-- a claim of a stop but for a fault of a disk
+abbrev pub OnStop : {T : Type 0} → Result T Stop → Type 0 → Type 0
+OnStop (Ok value) P = Unit {0}
+OnStop (Err DiskFault) P = Unit {0}
+OnStop (Err other) P = P

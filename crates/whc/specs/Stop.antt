@@ -6,7 +6,7 @@ use Rattle.wh_io.specs.Sink.{gained, GainsPrefix}
 use Rattle.whc.specs.declared.status.Status.{Status}
 use Rattle.whc.specs.declared.status.Status.TheVariants as status
 use Rattle.whc.specs.declared.stop.Stop.{Stop}
-use Rattle.whc.specs.declared.stop.Stop.TheVariants.{Refused, Usage, BadSpec, BadInput, ReadFault, WriteFault, DiskFault, Limit, NoMemory, NoFile}
+use Rattle.whc.specs.declared.stop.Stop.TheVariants.{Refused, Usage, BadSpec, BadInput, BadQuery, ReadFault, WriteFault, DiskFault, NotLoaded, AlreadyLoaded, Damaged, Limit, NoMemory, NoFile}
 
 -- the exit status of the program
 abbrev pub number_of : Status → ℕ
@@ -30,25 +30,33 @@ status_of (Refused words) = status.Refused
 status_of Usage = status.Usage
 status_of (BadSpec words) = status.BadSpec
 status_of (BadInput words) = status.BadInput
+status_of (BadQuery words) = status.BadInput
 status_of (ReadFault file) = status.ReadFault
 status_of WriteFault = status.WriteFault
 status_of DiskFault = status.DiskFault
+status_of NotLoaded = status.NotLoaded
+status_of AlreadyLoaded = status.AlreadyLoaded
+status_of (Damaged words) = status.Damaged
 status_of (Limit words) = status.Limit
 status_of NoMemory = status.NoMemory
 status_of (NoFile file) = status.NoFile
 
 -- the commands that are built
 abbrev pub usage : List ℕ
-usage = line (codes "usage: whc STORE COMMAND") ++ (line (codes "  show SPEC DIR") ++ line (codes "  plan SPEC"))
+usage = line (codes "usage: whc STORE COMMAND") ++ (line (codes "  show SPEC DIR") ++ (line (codes "  plan SPEC") ++ (line (codes "  load SPEC DIR") ++ (line (codes "  query TEXT") ++ line (codes "  dump RELATION")))))
 
 abbrev pub line_of : Stop → List ℕ
 line_of (Refused words) = codes "refused: " ++ line words
 line_of Usage = usage
 line_of (BadSpec words) = codes "spec: " ++ line words
 line_of (BadInput words) = codes "input: " ++ line words
+line_of (BadQuery words) = codes "query: " ++ line words
 line_of (ReadFault file) = codes "read fault: " ++ line file
 line_of WriteFault = line (codes "write fault")
 line_of DiskFault = line (codes "disk fault")
+line_of NotLoaded = line (codes "not loaded")
+line_of AlreadyLoaded = line (codes "already loaded")
+line_of (Damaged words) = codes "damaged: " ++ line words
 line_of (Limit words) = codes "limit: " ++ line words
 line_of NoMemory = line (codes "no memory")
 line_of (NoFile file) = codes "no file: " ++ line file

@@ -7,7 +7,7 @@ use Rattle.wh_schema.specs.declared.broken.Broken.{Broken}
 use Rattle.wh_schema.specs.declared.spec.Inclusion.{Inclusion}
 use Rattle.wh_schema.specs.declared.spec.Relation.{Relation}
 use Rattle.wh_schema.specs.declared.spec.Spec.{Spec}
-use Rattle.wh_schema.specs.Warehouse.{relation_at, inclusion_at, view_at}
+use Rattle.wh_schema.specs.Warehouse.{relation_at, view_at, inclusion_at}
 
 -- a dump outside its grammar
 abbrev pub dump_words : List ℕ → ℕ → CsvCause → List ℕ
@@ -16,6 +16,21 @@ dump_words file at cause = file ++ codes ": record " ++ decimal at ++ codes ": "
 -- a relation with too many pieces
 abbrev pub pieces_words : List ℕ → ℕ → List ℕ
 pieces_words name count = codes "relation " ++ name ++ codes " has " ++ decimal count ++ codes " pieces"
+
+-- the name of a stored table: a view's, or that of a complement
+abbrev pub table_name : Spec → ℕ → List ℕ
+table_name spec k =
+    if nat_lt k (length spec.views)
+    then (view_at spec k).name
+    else codes "C_" ++ (relation_at spec (k - length spec.views)).name
+
+-- a stored table with too many rows
+abbrev pub rows_words : Spec → ℕ → List ℕ
+rows_words spec k = codes "rows of " ++ table_name spec k
+
+-- a file of the store that would be too long
+abbrev pub warehouse_file_words : List ℕ
+warehouse_file_words = codes "warehouse file"
 
 -- columns in parentheses, and behind a relation's name
 abbrev pub list_words : List (List ℕ) → List ℕ
@@ -45,14 +60,3 @@ broken_words spec b =
     if nat_lt (b.constraint - 1) (length spec.relations)
     then key_words (relation_at spec (b.constraint - 1)) b
     else inclusion_words spec (inclusion_at spec (b.constraint - 1 - length spec.relations)) b
-
--- the name of a stored table, by its number: that of its view, or `C_` and its relation's
-abbrev pub stored_name : Spec → ℕ → List ℕ
-stored_name spec k =
-    if nat_lt k (length spec.views)
-    then (view_at spec k).name
-    else codes "C_" ++ (relation_at spec (k - length spec.views)).name
-
--- a stored table with too many rows
-abbrev pub rows_words : Spec → ℕ → List ℕ
-rows_words spec k = codes "rows of " ++ stored_name spec k

@@ -1,14 +1,13 @@
 // What a command reads: files, a specification, dumps.
-ghost use Rattle.std.specs.Prelude.{◌≡◌, [], get_or, map, Some, IfOk, IfSome, string_bytes};
+ghost use Rattle.std.specs.Prelude.{◌≡◌, [], get_or, map, None, Some, IfOk, IfSome, string_bytes};
 ghost use Rattle.std.specs.Option.{option_map};
 ghost use Rattle.wh_base.specs.RowSet.{AreDistinct};
 ghost use Rattle.wh_covers.specs.Covers.{IsNumbered};
 ghost use Rattle.wh_io.specs.Causes.{IsCounted};
 ghost use Rattle.wh_load.specs.Load.{HasDistinctRows};
 ghost use Rattle.wh_plan.specs.Plan.{IsPlan, too_many};
-ghost use Rattle.wh_schema.specs.Legality.{WellFormed};
 ghost use Rattle.wh_spec_text.specs.SpecTexts.{spec_of_text};
-ghost use Rattle.whc.specs.Inputs.{and_then, file_of, parsed, planned, spec_in, spec_file, dump_name, dump_in, dump_file, dump_files, IsNextDump};
+ghost use Rattle.whc.specs.Inputs.{and_then, file_of, parsed, planned, spec_in, spec_file, dump_name, dump_in, dump_file, dump_files, IsFromText, IsDumpOf, AreDumpsOf, IsNextDump};
 ghost use Rattle.whc.specs.Words.{pieces_words};
 ghost use Rattle.whc.specs.Steps.{Settles, NamesRead, BlamesFiles, BlamesNone, plan_spec, is_read_fault};
 
@@ -47,8 +46,9 @@ fn read_file<F: Files>(alloc: Global, files: &mut F, name: &str) -> Result<Bytes
 pub fn read_plan<F: Files>(alloc: Global, files: &mut F, name: &str) -> Result<Plan, Stop>
     ensures answer { Settles (option_map (λ held. spec_file held name.now) (F.held files.old)) (plan_spec result) }
     ensures numbered { IfOk result (λ plan. IsNumbered plan.spec) }
+    ensures text { IfOk result (λ plan. IsFromText plan.spec) }
     ensures plan { IfOk result IsPlan }
-    ensures rules { IfOk result (λ plan. WellFormed plan.spec) }
+    ensures few { IfOk result (λ plan. too_many plan.spec ≡ None) }
     ensures names { NamesRead (λ file. file ≡ name.now) result }
     ensures same { F.held files.new ≡ F.held files.old }
     ensures blames { BlamesFiles result }
@@ -61,8 +61,9 @@ pub fn read_plan<F: Files>(alloc: Global, files: &mut F, name: &str) -> Result<P
 fn plan_in(alloc: Global, text: &Bytes) -> Result<Plan, Stop>
     ensures answer { Settles (Some (spec_in text.now)) (plan_spec result) }
     ensures numbered { IfOk result (λ plan. IsNumbered plan.spec) }
+    ensures text { IfOk result (λ plan. IsFromText plan.spec) }
     ensures plan { IfOk result IsPlan }
-    ensures rules { IfOk result (λ plan. WellFormed plan.spec) }
+    ensures few { IfOk result (λ plan. too_many plan.spec ≡ None) }
     ensures blames { BlamesNone result }
 {
     let spec = parse(alloc, text)?;
@@ -72,7 +73,7 @@ fn plan_in(alloc: Global, text: &Bytes) -> Result<Plan, Stop>
 fn parse(alloc: Global, text: &Bytes) -> Result<Spec, Stop>
     ensures answer { Settles (Some (parsed text.now (spec_of_text text.now))) result }
     ensures numbered { IfOk result IsNumbered }
-    ensures rules { IfOk result WellFormed }
+    ensures text { IfOk result IsFromText }
     ensures blames { BlamesNone result }
 {
     match parse_spec(alloc, text.as_slice()) {
@@ -84,11 +85,12 @@ fn parse(alloc: Global, text: &Bytes) -> Result<Spec, Stop>
 
 fn plan_of(alloc: Global, spec: Spec) -> Result<Plan, Stop>
     requires numbered { IsNumbered spec }
-    requires rules { WellFormed spec }
+    requires text { IsFromText spec }
     ensures answer { Settles (Some (planned spec (too_many spec))) (plan_spec result) }
     ensures numbered { IfOk result (λ plan. IsNumbered plan.spec) }
+    ensures text { IfOk result (λ plan. IsFromText plan.spec) }
     ensures plan { IfOk result IsPlan }
-    ensures rules { IfOk result (λ plan. WellFormed plan.spec) }
+    ensures few { IfOk result (λ plan. too_many plan.spec ≡ None) }
     ensures blames { BlamesNone result }
 {
     let names = relation_names(alloc, &spec)?;
@@ -131,6 +133,7 @@ pub fn read_dumps<F: Files>(
 ) -> Result<State, Stop>
     ensures answer { Settles (option_map (λ held. dump_files held dir.now [] relations.now) (F.held files.old)) result }
     ensures distinct { IfOk result HasDistinctRows }
+    ensures dumps { IfOk result (AreDumpsOf relations.now) }
     ensures names { IfSome (F.held files.old) (λ held. NamesRead (IsNextDump held dir.now relations.now) result) }
     ensures same { F.held files.new ≡ F.held files.old }
     ensures blames { BlamesFiles result }
@@ -154,6 +157,7 @@ fn read_rows<F: Files>(
 ) -> Result<Rows, Stop>
     ensures answer { Settles (option_map (λ held. dump_file held dir.now relation.now) (F.held files.old)) result }
     ensures distinct { IfOk result AreDistinct }
+    ensures dump { IfOk result (IsDumpOf relation.now) }
     ensures names { NamesRead (λ file. file ≡ dump_name dir.now relation.now.name) result }
     ensures same { F.held files.new ≡ F.held files.old }
     ensures blames { BlamesFiles result }
@@ -178,6 +182,7 @@ fn read_named<F: Files>(
 ) -> Result<Rows, Stop>
     ensures answer { Settles (option_map (λ held. and_then (file_of (held file.now) file.now) (dump_in file.now relation.now.attrs)) (F.held files.old)) result }
     ensures distinct { IfOk result AreDistinct }
+    ensures dump { IfOk result (IsDumpOf relation.now) }
     ensures names { NamesRead (λ name. name ≡ file.now) result }
     ensures same { F.held files.new ≡ F.held files.old }
     ensures blames { BlamesFiles result }
@@ -190,6 +195,7 @@ fn read_named<F: Files>(
 fn rows_in(alloc: Global, file: &str, relation: &Relation, text: &Bytes) -> Result<Rows, Stop>
     ensures answer { Settles (Some (dump_in file.now relation.now.attrs text.now)) result }
     ensures distinct { IfOk result AreDistinct }
+    ensures dump { IfOk result (IsDumpOf relation.now) }
     ensures blames { BlamesNone result }
 {
     match read_dump(alloc, text.as_slice(), relation) {

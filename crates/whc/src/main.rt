@@ -1,14 +1,19 @@
 //! The program: it takes its words, and hands them with the outside to the top call.
 #![tactic(auto)]
 
+mod ask;
 mod command;
 mod inputs;
 mod laws;
+mod load;
 mod plan;
 mod run;
 mod show;
 mod status;
 mod stop;
+mod store;
+#[cfg(test)]
+mod store_tests;
 #[cfg(test)]
 mod tests;
 mod words;

@@ -7,7 +7,7 @@ ghost use Rattle.wh_plan.specs.PlanText.{plan_text};
 ghost use Rattle.whc.specs.Outcome.{stays};
 ghost use Rattle.whc.specs.Ends.{Ends};
 ghost use Rattle.whc.specs.Plan.{plan_texts};
-ghost use Rattle.whc.specs.Steps.{NamesRead, Writes, is_read_fault, is_write_fault, is_disk_fault, is_usage};
+ghost use Rattle.whc.specs.Steps.{NamesRead, Writes, is_read_fault, is_write_fault, is_store_stop, is_usage};
 
 use crate::inputs::read_plan;
 use crate::status::Status;
@@ -30,7 +30,7 @@ pub fn plan<F: Files, O: Sink>(
     ensures same { F.held files.new ≡ F.held files.old }
     ensures read { IsCounted (is_read_fault result) (F.faults files.old) (F.faults files.new) }
     ensures write { IsCounted (is_write_fault result) (O.faults out.old) (O.faults out.new) }
-    ensures disk { is_disk_fault result ≡ false }
+    ensures store { is_store_stop result ≡ false }
     ensures usage { is_usage result ≡ false }
     ensures done { IfOk result (λ status. status ≡ Status.Ok) }
 {
@@ -45,7 +45,7 @@ fn show_plan<O: Sink>(alloc: Global, plan: &Plan, out: &mut O) -> Result<Status,
     requires plan { IsPlan plan.now }
     ensures ends { (start : _) → Ends (stays start (Ok (plan_text plan.now.spec ∷ []))) (λ state. state ≡ start) (λ _ _. ⊥) (O.taken out.old) (O.taken out.new) result }
     ensures read { is_read_fault result ≡ false }
-    ensures disk { is_disk_fault result ≡ false }
+    ensures store { is_store_stop result ≡ false }
     ensures usage { is_usage result ≡ false }
     ensures done { IfOk result (λ status. status ≡ Status.Ok) }
     ensures cause { IsCounted (is_write_fault result) (O.faults out.old) (O.faults out.new) }

@@ -1,7 +1,7 @@
 // The top call.
 ghost use Rattle.std.specs.Prelude.{◌≡◌, ◌≤◌};
-ghost use Rattle.whc.specs.Commands.{words_of};
-ghost use Rattle.whc.specs.Run.{Answers};
+ghost use Rattle.whc.specs.Commands.{command_of, words_of};
+ghost use Rattle.whc.specs.Run.{Answers, Crashes};
 
 use crate::command::perform;
 use crate::status::Status;
@@ -13,8 +13,8 @@ use wh_steps::{Ledger, Steps};
 /// Does what the words say, over what it is handed, and tells how it ended.
 ///
 /// The words are those behind the store's folder. What a command prints goes to `out`, and the one line of a
-/// refusal or a fault to `err`. `first` and `second` are the two files of the store, which no command that is built
-/// so far touches, and `steps` counts the look-ups.
+/// refusal or a fault to `err`. `first` and `second` are the two files of the store, and `steps` counts the
+/// look-ups and scans of rows.
 pub fn run<F: Files, O: Sink, E: Sink, D: Disk, L: Ledger>(
     alloc: Global,
     words: &[String],
@@ -25,32 +25,28 @@ pub fn run<F: Files, O: Sink, E: Sink, D: Disk, L: Ledger>(
     second: &mut D,
     steps: &mut Steps<L>,
 ) -> Status
-    ensures answers { Answers (words_of words.now)
+    ensures answers { Answers D.content D.faults D.images (words_of words.now)
         (record {
-          held = F.held files.old;
+          view = record { held = F.held files.old; out = O.taken out.old; first = first.old; second = second.old };
           files_faults = F.faults files.old;
-          out = O.taken out.old;
           out_faults = O.faults out.old;
           err = E.taken err.old;
           err_faults = E.faults err.old;
         })
         (record {
-          held = F.held files.new;
+          view = record { held = F.held files.new; out = O.taken out.new; first = first.new; second = second.new };
           files_faults = F.faults files.new;
-          out = O.taken out.new;
           out_faults = O.faults out.new;
           err = E.taken err.new;
           err_faults = E.faults err.new;
         })
         result }
+    ensures crash { Crashes D.content D.images D.moment D.images_since (command_of (words_of words.now)) (F.held files.old) first.old first.new second.old second.new }
     ensures files { F.held files.new ≡ F.held files.old }
-    ensures disks { (first.new ≡ first.old) × (second.new ≡ second.old) }
     ensures probes { steps.old.probes ≤ steps.new.probes }
     ensures scans { steps.old.scans ≤ steps.new.scans }
 {
-    let _ = first;
-    let _ = second;
-    match perform(alloc, words, files, out, steps) {
+    match perform(alloc, words, files, out, first, second, steps) {
         Ok(status) => status,
         Err(stop) => tell(&stop, err),
     }

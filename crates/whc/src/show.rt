@@ -1,18 +1,19 @@
 // The command `show SPEC DIR`: the stored tables of the dumps.
 ghost use Rattle.std.specs.Prelude.{◌≡◌, ◌++◌, ◌<◌, ◌+◌, ◌≤◌, false, Some, Ok, IfOk, OnOk, IfSome, length, codes, decimal};
 ghost use Rattle.wh_base.specs.Lines.{line};
-ghost use Rattle.wh_schema.specs.Warehouse.{relation_at, columns_of};
+ghost use Rattle.wh_schema.specs.Warehouse.{relation_at, columns_of, stored};
 ghost use Rattle.std.specs.Option.{option_map};
 ghost use Rattle.wh_covers.specs.Covers.{IsNumbered};
 ghost use Rattle.wh_io.specs.Causes.{IsCounted};
 ghost use Rattle.wh_load.specs.Load.{HasDistinctRows};
 ghost use Rattle.wh_plan.specs.Plan.{IsPlan};
-ghost use Rattle.wh_schema.specs.Legality.{WellFormed};
 ghost use Rattle.whc.specs.Outcome.{stays};
 ghost use Rattle.whc.specs.Ends.{Ends};
-ghost use Rattle.whc.specs.Inputs.{IsNextFile};
+ghost use Rattle.wh_store.specs.Image.{first_over};
+ghost use Rattle.whc.specs.Inputs.{IsFromText, IsNextFile};
+ghost use Rattle.whc.specs.Load.{tables_shown};
 ghost use Rattle.whc.specs.Show.{titled, table_text, table_texts, tables_of, shown_of, show_texts};
-ghost use Rattle.whc.specs.Steps.{Settles, NamesRead, BlamesFiles, BlamesNone, Writes, is_read_fault, is_write_fault, is_disk_fault, is_usage};
+ghost use Rattle.whc.specs.Steps.{Settles, NamesRead, BlamesFiles, BlamesNone, Writes, is_read_fault, is_write_fault, is_store_stop, is_usage};
 
 use crate::inputs::{read_dumps, read_plan};
 use crate::status::Status;
@@ -51,7 +52,7 @@ pub fn show<F: Files, O: Sink, L: Ledger>(
     ensures same { F.held files.new ≡ F.held files.old }
     ensures read { IsCounted (is_read_fault result) (F.faults files.old) (F.faults files.new) }
     ensures write { IsCounted (is_write_fault result) (O.faults out.old) (O.faults out.new) }
-    ensures disk { is_disk_fault result ≡ false }
+    ensures store { is_store_stop result ≡ false }
     ensures usage { is_usage result ≡ false }
     ensures done { IfOk result (λ status. status ≡ Status.Ok) }
     ensures probes { steps.old.probes ≤ steps.new.probes }
@@ -93,23 +94,46 @@ fn compute<L: Ledger>(
 ) -> Result<Shown, Stop>
     requires numbered { IsNumbered plan.spec }
     requires plan { IsPlan plan }
-    requires rules { WellFormed plan.spec }
+    requires text { IsFromText plan.spec }
     requires distinct { HasDistinctRows state.now }
     ensures answer { Settles (Some (tables_of plan.spec state.now)) result }
     ensures blames { BlamesNone result }
     ensures probes { steps.old.probes ≤ steps.new.probes }
     ensures scans { steps.old.scans ≤ steps.new.scans }
 {
-    match load_rows(alloc, &plan, state, steps) {
-        Ok(tables) => Ok(Shown {
-            spec: plan.spec,
-            tables,
-        }),
+    let tables = tables_of(alloc, &plan, state, steps)?;
+    Ok(Shown {
+        spec: plan.spec,
+        tables,
+    })
+}
+
+/// The stored tables of a state that breaks no constraint, where none of them has too many rows.
+#[tactic(auto, using(crate::proofs::Fitting::text_is_well_formed))]
+pub fn tables_of<L: Ledger>(
+    alloc: Global,
+    plan: &Plan,
+    state: &State,
+    steps: &mut Steps<L>,
+) -> Result<StoredRows, Stop>
+    requires numbered { IsNumbered plan.now.spec }
+    requires plan { IsPlan plan.now }
+    requires text { IsFromText plan.now.spec }
+    requires distinct { HasDistinctRows state.now }
+    ensures answer { Settles (Some (tables_of plan.now.spec state.now)) (tables_shown plan.now.spec result) }
+    ensures tables { IfOk result (λ tables. tables ≡ stored plan.now.spec state.now) }
+    ensures within { IfOk result (λ tables. first_over tables ≡ None) }
+    ensures blames { BlamesNone result }
+    ensures probes { steps.old.probes ≤ steps.new.probes }
+    ensures scans { steps.old.scans ≤ steps.new.scans }
+{
+    match load_rows(alloc, plan, state, steps) {
+        Ok(tables) => Ok(tables),
         Err(LoadFault::Broken(broken)) => Err(Stop::Refused(words::broken(
             alloc, &plan.spec, &broken,
         )?)),
         Err(LoadFault::RowLimit { table }) => {
-            Err(Stop::Limit(words::row_limit(alloc, &plan.spec, table)?))
+            Err(Stop::Limit(words::rows_limit(alloc, &plan.spec, table as usize)?))
         }
         Err(LoadFault::NoMemory) => Err(Stop::NoMemory),
     }
@@ -119,7 +143,7 @@ fn compute<L: Ledger>(
 fn write_tables<O: Sink>(alloc: Global, shown: &Shown, out: &mut O) -> Result<Status, Stop>
     ensures ends { (start : _) → Ends (stays start (Ok (table_texts shown.now))) (λ state. state ≡ start) (λ _ _. ⊥) (O.taken out.old) (O.taken out.new) result }
     ensures read { is_read_fault result ≡ false }
-    ensures disk { is_disk_fault result ≡ false }
+    ensures store { is_store_stop result ≡ false }
     ensures usage { is_usage result ≡ false }
     ensures done { IfOk result (λ status. status ≡ Status.Ok) }
     ensures cause { IsCounted (is_write_fault result) (O.faults out.old) (O.faults out.new) }

@@ -18,12 +18,20 @@ pub enum Stop {
     Usage,
     /// The specification is outside its grammar, breaks a rule, or has a relation with too many pieces.
     BadSpec(Bytes),
-    /// A dump is outside its grammar.
+    /// A dump is outside its grammar, or a word is no relation's name.
     BadInput(Bytes),
+    /// A query text is outside its grammar or breaks a rule.
+    BadQuery(Bytes),
     /// A file could not be read.
     ReadFault(Bytes),
     WriteFault,
     DiskFault,
+    /// A store is needed, and both of its files are empty.
+    NotLoaded,
+    /// A file of the store is not empty.
+    AlreadyLoaded,
+    /// A file of the store is outside its format.
+    Damaged(Bytes),
     /// A quantity passes its limit.
     Limit(Bytes),
     NoMemory,
@@ -41,7 +49,8 @@ impl From<NoMemory> for Stop {
     }
 }
 
-const USAGE: &[u8] = b"usage: whc STORE COMMAND\n  show SPEC DIR\n  plan SPEC\n";
+const USAGE: &[u8] =
+    b"usage: whc STORE COMMAND\n  show SPEC DIR\n  plan SPEC\n  load SPEC DIR\n  query TEXT\n  dump RELATION\n";
 
 impl Stop {
     pub fn status(&self) -> Status
@@ -51,10 +60,13 @@ impl Stop {
             Stop::Refused(_) => Status::Refused,
             Stop::Usage => Status::Usage,
             Stop::BadSpec(_) => Status::BadSpec,
-            Stop::BadInput(_) => Status::BadInput,
+            Stop::BadInput(_) | Stop::BadQuery(_) => Status::BadInput,
             Stop::ReadFault(_) => Status::ReadFault,
             Stop::WriteFault => Status::WriteFault,
             Stop::DiskFault => Status::DiskFault,
+            Stop::NotLoaded => Status::NotLoaded,
+            Stop::AlreadyLoaded => Status::AlreadyLoaded,
+            Stop::Damaged(_) => Status::Damaged,
             Stop::Limit(_) => Status::Limit,
             Stop::NoMemory => Status::NoMemory,
             Stop::NoFile(_) => Status::NoFile,
@@ -72,9 +84,13 @@ impl Stop {
             Stop::Usage => write_all(err, USAGE),
             Stop::BadSpec(words) => write_words(err, b"spec: ", words),
             Stop::BadInput(words) => write_words(err, b"input: ", words),
+            Stop::BadQuery(words) => write_words(err, b"query: ", words),
             Stop::ReadFault(file) => write_words(err, b"read fault: ", file),
             Stop::WriteFault => write_all(err, b"write fault\n"),
             Stop::DiskFault => write_all(err, b"disk fault\n"),
+            Stop::NotLoaded => write_all(err, b"not loaded\n"),
+            Stop::AlreadyLoaded => write_all(err, b"already loaded\n"),
+            Stop::Damaged(words) => write_words(err, b"damaged: ", words),
             Stop::Limit(words) => write_words(err, b"limit: ", words),
             Stop::NoMemory => write_all(err, b"no memory\n"),
             Stop::NoFile(file) => write_words(err, b"no file: ", file),

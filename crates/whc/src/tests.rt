@@ -10,7 +10,7 @@ use wh_steps::{NoLedger, Steps};
 
 // A run: its words, the files that are held, and the calls that fail.
 #[derive(Clone, Copy)]
-struct Case<'a> {
+pub(crate) struct Case<'a> {
     words: &'a [&'a str],
     held: &'a [(&'a str, &'a [u8])],
     read_fails: &'a [u64],
@@ -23,7 +23,7 @@ struct Case<'a> {
 #[derive(Clone, Copy)]
 struct Row<'a>(Case<'a>, Status, &'a str, &'a str);
 
-fn show<'a>(words: &'a [&'a str], held: &'a [(&'a str, &'a [u8])]) -> Case<'a> {
+pub(crate) fn show<'a>(words: &'a [&'a str], held: &'a [(&'a str, &'a [u8])]) -> Case<'a> {
     Case {
         words,
         held,
@@ -47,7 +47,7 @@ fn told<'a>(
     Row(show(words, held), status, "", err)
 }
 
-fn numbers(alloc: Global, listed: &[u64]) -> Result<Numbers, NoMemory> {
+pub(crate) fn numbers(alloc: Global, listed: &[u64]) -> Result<Numbers, NoMemory> {
     let mut numbers = Numbers::new(alloc);
     for number in listed {
         numbers.push(*number)?;
@@ -55,7 +55,7 @@ fn numbers(alloc: Global, listed: &[u64]) -> Result<Numbers, NoMemory> {
     Ok(numbers)
 }
 
-fn files(rt: &impl Abort, alloc: Global, case: &Case<'_>) -> Result<MemFiles, NoMemory> {
+pub(crate) fn files(rt: &impl Abort, alloc: Global, case: &Case<'_>) -> Result<MemFiles, NoMemory> {
     let mut names = Names::new(alloc);
     let mut contents = Texts::new(alloc);
     for (name, content) in case.held {
@@ -130,7 +130,7 @@ const EMP: &[u8] = b"clerk,age\nMary,23\nJohn,25\nPaula,32\n";
 
 const SALE: &[u8] = b"item,clerk\nTV,Mary\nVCR,Mary\nPC,John\n";
 
-const FILES_A: &[(&str, &[u8])] = &[
+pub(crate) const FILES_A: &[(&str, &[u8])] = &[
     ("spec_a.txt", SPEC_A),
     ("spec_b.txt", SPEC_B),
     ("dir_a/Emp.csv", EMP),
@@ -407,7 +407,8 @@ fn each_specification_is_refused_at_its_place(rt: HostRuntime) -> Result<(), Fai
     Ok(())
 }
 
-const USAGE: &str = "usage: whc STORE COMMAND\n  show SPEC DIR\n  plan SPEC\n";
+const USAGE: &str =
+    "usage: whc STORE COMMAND\n  show SPEC DIR\n  plan SPEC\n  load SPEC DIR\n  query TEXT\n  dump RELATION\n";
 
 const HELD_T: &[(&str, &[u8])] = &[
     ("s", T),

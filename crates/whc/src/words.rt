@@ -3,14 +3,18 @@ ghost use Rattle.std.specs.Prelude.{◌≡◌, ◌++◌, IfOk, OnOk, codes, deci
 ghost use Rattle.wh_csv.specs.Words.{cause_words};
 ghost use Rattle.wh_schema.specs.Warehouse.{no_inclusion, relation_at, inclusion_at};
 ghost use Rattle.wh_spec_text.specs.SpecTexts.{fault_words};
-ghost use Rattle.whc.specs.Words.{list_words, columns_words, number_words, value_words, key_words, inclusion_words, broken_words, dump_words, pieces_words, stored_name, rows_words};
+ghost use Rattle.whc.specs.Words.{list_words, columns_words, number_words, value_words, key_words, inclusion_words, broken_words, dump_words, pieces_words, rows_words, warehouse_file_words};
+ghost use Rattle.wh_query_text.specs.QueryTexts.{fault_words as query_fault_words};
+ghost use Rattle.whc.specs.Ask.{damage_words, unknown_words};
 
 use itoa::Buffer;
 use std::alloc::Global;
 use wh_base::{ByteText, Bytes, Name, Names, NoMemory, put_names, put_record};
 use wh_csv::CsvCause;
+use wh_query_text::{QueryFault, put_query_fault};
 use wh_schema::{Broken, Inclusion, Relation, Spec};
 use wh_spec_text::{SpecTextFault, put_spec_fault};
+use wh_store::Which;
 
 fn put_number(out: &mut ByteText, number: u64) -> Result<(), NoMemory>
     ensures { OnOk result (out.new.bytes ≡ out.old.bytes ++ decimal number) }
@@ -25,6 +29,40 @@ pub fn file_limit(alloc: Global, file: &[u8]) -> Result<Bytes, NoMemory>
 {
     let mut out = ByteText::from_slice(alloc, b"file ")?;
     out.append(file)?;
+    Ok(out.into_bytes())
+}
+
+/// `rows of TABLE`, of a stored table with too many rows.
+pub fn rows_limit(alloc: Global, spec: &Spec, table: usize) -> Result<Bytes, NoMemory>
+    ensures { IfOk result (λ words. words ≡ rows_words spec.now table) }
+{
+    match spec.views.get(table) {
+        Some(view) => view_rows(alloc, &view.name),
+        None => complement_rows(alloc, spec, table - spec.views.len()),
+    }
+}
+
+fn view_rows(alloc: Global, name: &Name) -> Result<Bytes, NoMemory>
+    ensures { IfOk result (λ words. words ≡ codes "rows of " ++ name.now) }
+{
+    let mut out = ByteText::from_slice(alloc, b"rows of ")?;
+    out.append(name.as_slice())?;
+    Ok(out.into_bytes())
+}
+
+fn complement_rows(alloc: Global, spec: &Spec, number: usize) -> Result<Bytes, NoMemory>
+    ensures { IfOk result (λ words. words ≡ codes "rows of " ++ codes "C_" ++ (relation_at spec.now number).name) }
+{
+    let mut out = ByteText::from_slice(alloc, b"rows of C_")?;
+    put_relation_name(&mut out, spec, number)?;
+    Ok(out.into_bytes())
+}
+
+/// `warehouse file`, of a file of the store that would be too long.
+pub fn warehouse_file(alloc: Global) -> Result<Bytes, NoMemory>
+    ensures { IfOk result (λ words. words ≡ warehouse_file_words) }
+{
+    let out = ByteText::from_slice(alloc, b"warehouse file")?;
     Ok(out.into_bytes())
 }
 
@@ -50,35 +88,6 @@ pub fn too_many_pieces(alloc: Global, name: &Name, count: u32) -> Result<Bytes, 
     put_number(&mut out, count as u64)?;
     out.append(b" pieces")?;
     Ok(out.into_bytes())
-}
-
-/// `rows of NAME`, of a stored table with too many.
-pub fn row_limit(alloc: Global, spec: &Spec, table: u32) -> Result<Bytes, NoMemory>
-    ensures { IfOk result (λ words. words ≡ rows_words spec.now table) }
-{
-    let mut out = ByteText::from_slice(alloc, b"rows of ")?;
-    put_stored_name(&mut out, spec, table as usize)?;
-    Ok(out.into_bytes())
-}
-
-fn put_stored_name(out: &mut ByteText, spec: &Spec, table: usize) -> Result<(), NoMemory>
-    ensures { OnOk result (out.new.bytes ≡ out.old.bytes ++ stored_name spec.now table) }
-{
-    match spec.views.get(table) {
-        Some(view) => out.append(view.name.as_slice()),
-        None => put_complement_name(out, spec, table.saturating_sub(spec.views.len())),
-    }
-}
-
-#[tactic(auto, using(crate::proofs::Numbered::get_or_none))]
-fn put_complement_name(out: &mut ByteText, spec: &Spec, relation: usize) -> Result<(), NoMemory>
-    ensures { OnOk result (out.new.bytes ≡ out.old.bytes ++ codes "C_" ++ (relation_at spec.now relation).name) }
-{
-    out.append(b"C_")?;
-    match spec.relations.get(relation) {
-        Some(found) => out.append(found.name.as_slice()),
-        None => out.append(b""),
-    }
 }
 
 // A relation's name with some columns in parentheses.
@@ -148,15 +157,15 @@ fn inclusion_broken(
 fn put_side(out: &mut ByteText, spec: &Spec, relation: u32, columns: &Names) -> Result<(), NoMemory>
     ensures { OnOk result (out.new.bytes ≡ out.old.bytes ++ columns_words (relation_at spec.now relation).name columns.now) }
 {
-    put_relation_name(out, spec, relation)?;
+    put_relation_name(out, spec, relation as usize)?;
     put_list(out, columns)
 }
 
 #[tactic(auto, using(crate::proofs::Numbered::get_or_none))]
-fn put_relation_name(out: &mut ByteText, spec: &Spec, relation: u32) -> Result<(), NoMemory>
+fn put_relation_name(out: &mut ByteText, spec: &Spec, relation: usize) -> Result<(), NoMemory>
     ensures { OnOk result (out.new.bytes ≡ out.old.bytes ++ (relation_at spec.now relation).name) }
 {
-    match spec.relations.get(relation as usize) {
+    match spec.relations.get(relation) {
         Some(relation) => out.append(relation.name.as_slice()),
         None => out.append(b""),
     }
@@ -206,5 +215,49 @@ pub fn spec_fault(alloc: Global, text: &[u8], fault: &SpecTextFault) -> Result<B
 {
     let mut out = ByteText::new(alloc);
     put_spec_fault(alloc, text, fault, &mut out)?;
+    Ok(out.into_bytes())
+}
+
+/// The place and the cause of a query's first fault.
+pub fn query_fault(alloc: Global, fault: &QueryFault) -> Result<Bytes, NoMemory>
+    ensures { IfOk result (λ words. words ≡ query_fault_words fault.now) }
+{
+    let mut out = ByteText::new(alloc);
+    put_query_fault(alloc, fault, &mut out)?;
+    Ok(out.into_bytes())
+}
+
+/// `unknown relation WORD`.
+pub fn unknown_relation(alloc: Global, word: &[u8]) -> Result<Bytes, NoMemory>
+    ensures { IfOk result (λ words. words ≡ unknown_words word.now) }
+{
+    let mut out = ByteText::from_slice(alloc, b"unknown relation ")?;
+    out.append(word)?;
+    Ok(out.into_bytes())
+}
+
+/// The file and the place of damage, or that both files have one generation.
+pub fn damage(alloc: Global, which: Which, at: u64) -> Result<Bytes, NoMemory>
+    ensures { IfOk result (λ words. words ≡ damage_words which at) }
+{
+    match which {
+        Which::First => file_at(alloc, b"first file at ", at),
+        Which::Second if at == u64::MAX => fixed(alloc, b"equal generations"),
+        Which::Second => file_at(alloc, b"second file at ", at),
+    }
+}
+
+fn fixed(alloc: Global, words: &[u8]) -> Result<Bytes, NoMemory>
+    ensures { IfOk result (λ bytes. bytes ≡ words.now) }
+{
+    let out = ByteText::from_slice(alloc, words)?;
+    Ok(out.into_bytes())
+}
+
+fn file_at(alloc: Global, label: &[u8], at: u64) -> Result<Bytes, NoMemory>
+    ensures { IfOk result (λ words. words ≡ label.now ++ decimal at) }
+{
+    let mut out = ByteText::from_slice(alloc, label)?;
+    put_number(&mut out, at)?;
     Ok(out.into_bytes())
 }

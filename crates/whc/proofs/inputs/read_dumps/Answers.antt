@@ -1,9 +1,9 @@
-use Rattle.std.proofs.Common.{◌≡◌, ◌∙◌, ◌++◌, ◌∷◌, [], List, Option, Some, None, IfSome, refl, sym, ap, subst, ℕ, drop, ◌+◌}
+use Rattle.std.proofs.Common.{◌≡◌, ◌∙◌, ◌++◌, ◌∷◌, [], List, Option, Some, None, IfSome, refl, sym, ap, subst, ℕ, drop, ◌+◌, arith}
 use Rattle.wh_io.specs.Files.{Held}
 use Rattle.wh_load.specs.Load.{HasDistinctRows}
 use Rattle.wh_schema.specs.Warehouse.{State}
 use Rattle.whc.specs.Inputs.{dump_files}
-use Rattle.whc.proofs.Dumps.{found_more, found_none, next_more, next_none, distinct_push, distinct_none}
+use Rattle.whc.proofs.Dumps.{found_more, found_none, next_more, next_none, distinct_push, distinct_none, dumps_none, dumps_more, dumps_over}
 use Rattle.whc.proofs.inputs.read_dumps.Goals as goal
 
 pub loop-relation-init : goal.loop-relation-init
@@ -11,6 +11,7 @@ loop-relation-init g c = record {
   same = refl;
   faults = refl;
   distinct = distinct_none c.new-state.result c.new-state.ensures;
+  dumps = dumps_none c.args.relations.now c.new-state.result c.new-state.ensures;
   found = found_none c.args.dir.now c.args.relations.now c.new-state.result c.new-state.ensures _;
   next = next_none c.args.dir.now c.args.relations.now _;
 }
@@ -27,6 +28,10 @@ loop-relation-preserved g c =
       same = read.same ∙ loop.same;
       faults = read.cause ∙ loop.faults;
       distinct = distinct_push c.loop-relation.state c.push.new.self c.in-Ok.rows pushed loop.distinct read.distinct;
+      dumps = dumps_more relations i c.relation-item.result c.loop-relation-test.true c.relation-item.is c.in-Ok.rows c.loop-relation.state c.push.new.self pushed loop.dumps read.dump;
       found = found_more dir relations i c.relation-item.result c.loop-relation-test.true c.relation-item.is c.in-Ok.rows _ _ c.loop-relation.state c.push.new.self pushed loop.same read.answer loop.found;
       next = next_more dir relations i c.relation-item.result c.loop-relation-test.true c.relation-item.is c.in-Ok.rows _ _ loop.same read.answer loop.next;
     }
+
+pub returns-clause-dumps : goal.returns-clause-dumps
+returns-clause-dumps g c = dumps_over c.args.relations.now c.loop-relation.relation-index c.loop-relation.state (omega (arith, c.loop-relation-test.false)) c.loop-relation.invariant.dumps

@@ -1,0 +1,33 @@
+use Rattle.std.proofs.Common.{◌∙◌, ◌≡◌, ap, refl, sym, true, Some, List, ℕ}
+use Rattle.std.specs.Prelude.{String, string_bytes, codes}
+use Rattle.std.specs.Str.{bytes_eq}
+use Rattle.std.specs.declared.alloc.Global.{Global}
+use Rattle.whc.specs.Commands.{load}
+use Rattle.whc.proofs.Commands.{apart_crashes, load_finishes, load_crashes, load_words}
+use Rattle.whc.proofs.command.perform.Goals as goal
+
+pub returns-in-len2-clause-crash : goal.returns-in-len2-clause-crash
+returns-in-len2-clause-crash g c =
+    apart_crashes g.D.Disk.content g.D.Disk.images c.args.first.now c.args.second.now g.D.Disk.moment g.D.Disk.images_since _ _ (g.met.D.Disk.only_now _) (g.met.D.Disk.only_now _)
+
+pub returns-in-len3-clause-crash : goal.returns-in-len3-clause-crash
+returns-in-len3-clause-crash g c =
+    apart_crashes g.D.Disk.content g.D.Disk.images c.args.first.now c.args.second.now g.D.Disk.moment g.D.Disk.images_since _ _ (g.met.D.Disk.only_now _) (g.met.D.Disk.only_now _)
+
+pub returns-in-len3-2-clause-finishes : goal.returns-in-len3-2-clause-finishes
+returns-in-len3-2-clause-finishes g c =
+    let is_load : bytes_eq (string_bytes c.verb-item-then-words-lt4-2.result) (codes "load") ≡ true = ap (λ (l : List ℕ). bytes_eq l (codes "load")) (sym c.as_str-then-words-lt4-2.ensures.value) ∙ sym c.eq-then-words-lt4-2.ensures ∙ c.if-eq-3.true in
+    let named = load_words (λ (s : String Global). string_bytes s) c.args.words.now c.verb-item-then-words-lt4-2.result c.spec-item-then-words-lt4-2.result c.dir-item-then-words-lt4.result c.verb-item-then-words-lt4-2.is c.spec-item-then-words-lt4-2.is c.dir-item-then-words-lt4.is c.in-len3.len_at_least c.in-len3.len_below is_load in
+    let spec_is = c.as_str-in-len3-2-2.ensures.value in
+    let dir_is = c.as_str-in-len3-2-3.ensures.value in
+    load_finishes g.D.Disk.content g.D.Disk.images g.D.Disk.moment g.D.Disk.images_since c.as_str-in-len3-2-2.result.now c.as_str-in-len3-2-3.result.now c.args.first.now c.load.new.first c.args.second.now c.load.new.second _ _ _ _ _ _
+    (named ∙ (λ i. Some (load (sym spec_is i) (sym dir_is i)))) c.load.ensures.usage c.load.ensures.done c.load.ensures.second_same c.load.ensures.ends
+
+pub returns-in-len3-2-clause-crash : goal.returns-in-len3-2-clause-crash
+returns-in-len3-2-clause-crash g c =
+    let is_load : bytes_eq (string_bytes c.verb-item-then-words-lt4-2.result) (codes "load") ≡ true = ap (λ (l : List ℕ). bytes_eq l (codes "load")) (sym c.as_str-then-words-lt4-2.ensures.value) ∙ sym c.eq-then-words-lt4-2.ensures ∙ c.if-eq-3.true in
+    let named = load_words (λ (s : String Global). string_bytes s) c.args.words.now c.verb-item-then-words-lt4-2.result c.spec-item-then-words-lt4-2.result c.dir-item-then-words-lt4.result c.verb-item-then-words-lt4-2.is c.spec-item-then-words-lt4-2.is c.dir-item-then-words-lt4.is c.in-len3.len_at_least c.in-len3.len_below is_load in
+    let spec_is = c.as_str-in-len3-2-2.ensures.value in
+    let dir_is = c.as_str-in-len3-2-3.ensures.value in
+    load_crashes g.D.Disk.content g.D.Disk.images g.D.Disk.moment g.D.Disk.images_since c.as_str-in-len3-2-2.result.now c.as_str-in-len3-2-3.result.now c.args.first.now c.load.new.first c.args.second.now c.load.new.second _ _ _ _ _
+    (named ∙ (λ i. Some (load (sym spec_is i) (sym dir_is i)))) c.load.ensures.ends
