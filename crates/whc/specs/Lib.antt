@@ -1,3 +1,4 @@
+pub mod AskLaws
 pub mod Ask
 pub mod Commands
 pub mod Disks

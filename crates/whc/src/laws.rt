@@ -1,4 +1,5 @@
 // What follows of every run. The functions have no code.
+ghost use Rattle.whc.specs.AskLaws.{QueryPrintsAnswer, DumpPrintsRelation};
 ghost use Rattle.whc.specs.Laws.{ReadFaultHasCause, DiskFaultHasCause, KeepsAcknowledged, WriteFaultHasCause, StaysApart, UsageHasCause, OtherWordsAreTold, RefusalHasCause, IsExact, PrintsFirstPart, ShowPrintsStored, ShowRefusesBroken, LoadWritesOneSnapshot, LoadReaches, LoadStands};
 
 use wh_io::Disk;
@@ -76,4 +77,14 @@ pub fn load_reaches()
 /// After Ok of a load the files hold the stored tables of a legal state.
 pub fn load_stands<D: Disk>()
     ensures { LoadStands D.content D.faults D.images }
+{}
+
+/// After Ok `query` has printed the rows of the query over the state that the store stands for.
+pub fn query_prints_answer<D: Disk>()
+    ensures { QueryPrintsAnswer D.content D.faults D.images }
+{}
+
+/// After Ok `dump` has printed the relation's rows in the state that the store stands for.
+pub fn dump_prints_relation<D: Disk>()
+    ensures { DumpPrintsRelation D.content D.faults D.images }
 {}

@@ -13,6 +13,8 @@ mod status;
 mod stop;
 mod store;
 #[cfg(test)]
+mod ask_tests;
+#[cfg(test)]
 mod store_tests;
 #[cfg(test)]
 mod tests;

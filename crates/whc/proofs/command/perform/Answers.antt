@@ -16,7 +16,7 @@ returns-in-len3-clause-crash g c =
 
 pub returns-in-len3-2-clause-finishes : goal.returns-in-len3-2-clause-finishes
 returns-in-len3-2-clause-finishes g c =
-    let is_load : bytes_eq (string_bytes c.verb-item-then-words-lt4-2.result) (codes "load") ≡ true = ap (λ (l : List ℕ). bytes_eq l (codes "load")) (sym c.as_str-then-words-lt4-2.ensures.value) ∙ sym c.eq-then-words-lt4-2.ensures ∙ c.if-eq-3.true in
+    let is_load : bytes_eq (string_bytes c.verb-item-then-words-lt4-2.result) (codes "load") ≡ true = ap (λ (l : List ℕ). bytes_eq l (codes "load")) (sym c.as_str-then-words-lt4-2.ensures.value) ∙ sym c.eq-then-words-lt4-2.ensures ∙ c.if-eq-5.true in
     let named = load_words (λ (s : String Global). string_bytes s) c.args.words.now c.verb-item-then-words-lt4-2.result c.spec-item-then-words-lt4-2.result c.dir-item-then-words-lt4.result c.verb-item-then-words-lt4-2.is c.spec-item-then-words-lt4-2.is c.dir-item-then-words-lt4.is c.in-len3.len_at_least c.in-len3.len_below is_load in
     let spec_is = c.as_str-in-len3-2-2.ensures.value in
     let dir_is = c.as_str-in-len3-2-3.ensures.value in
@@ -25,9 +25,15 @@ returns-in-len3-2-clause-finishes g c =
 
 pub returns-in-len3-2-clause-crash : goal.returns-in-len3-2-clause-crash
 returns-in-len3-2-clause-crash g c =
-    let is_load : bytes_eq (string_bytes c.verb-item-then-words-lt4-2.result) (codes "load") ≡ true = ap (λ (l : List ℕ). bytes_eq l (codes "load")) (sym c.as_str-then-words-lt4-2.ensures.value) ∙ sym c.eq-then-words-lt4-2.ensures ∙ c.if-eq-3.true in
+    let is_load : bytes_eq (string_bytes c.verb-item-then-words-lt4-2.result) (codes "load") ≡ true = ap (λ (l : List ℕ). bytes_eq l (codes "load")) (sym c.as_str-then-words-lt4-2.ensures.value) ∙ sym c.eq-then-words-lt4-2.ensures ∙ c.if-eq-5.true in
     let named = load_words (λ (s : String Global). string_bytes s) c.args.words.now c.verb-item-then-words-lt4-2.result c.spec-item-then-words-lt4-2.result c.dir-item-then-words-lt4.result c.verb-item-then-words-lt4-2.is c.spec-item-then-words-lt4-2.is c.dir-item-then-words-lt4.is c.in-len3.len_at_least c.in-len3.len_below is_load in
     let spec_is = c.as_str-in-len3-2-2.ensures.value in
     let dir_is = c.as_str-in-len3-2-3.ensures.value in
     load_crashes g.D.Disk.content g.D.Disk.images g.D.Disk.moment g.D.Disk.images_since c.as_str-in-len3-2-2.result.now c.as_str-in-len3-2-3.result.now c.args.first.now c.load.new.first c.args.second.now c.load.new.second _ _ _ _ _
     (named ∙ (λ i. Some (load (sym spec_is i) (sym dir_is i)))) c.load.ensures.ends
+
+pub returns-in_default-clause-finishes : goal.returns-in_default-clause-finishes
+returns-in_default-clause-finishes g c = ?
+
+pub returns-in_default-clause-crash : goal.returns-in_default-clause-crash
+returns-in_default-clause-crash g c = ?

@@ -1,0 +1,137 @@
+-- What `query` and `dump` have printed after Ok, over the state that the store stands for.
+use Rattle.std.proofs.Common.{◌≡◌, ℕ, ◌<◌, Bool, true, false, cond, nat_lt, List, [], ◌∷◌, ◌++◌, length, append-nil, Option, None, Some, Result, Ok, Err, refl, sym, ◌∙◌, ap, subst, arith}
+use Rattle.std.specs.List.{position, position_or_len}
+use Rattle.std.proofs.lemmas.Bool.Decides.{nat_tests}
+use Rattle.wh_base.specs.Columns.{name_eq}
+use Rattle.wh_io.specs.Files.{Held}
+use Rattle.wh_io.specs.Sink.{gained}
+use Rattle.wh_query_text.specs.declared.fault.QueryFault.{QueryFault}
+use Rattle.wh_query_text.specs.declared.parsing.Query.{Query}
+use Rattle.wh_query_text.specs.QueryTexts.{query_of_text}
+use Rattle.wh_schema.specs.declared.spec.Relation.{Relation}
+use Rattle.wh_schema.specs.declared.spec.Spec.{Spec}
+use Rattle.wh_schema.specs.Warehouse.{Row, State, relation_at, stored}
+use Rattle.wh_store.specs.Image.{Image, Holding}
+use Rattle.wh_answer.specs.Answer.{IsOverSources, answer_text, state_rows, text_over}
+use Rattle.wh_answer.proofs.AnswerLemmas.{answers_are_of_state}
+use Rattle.wh_answer.proofs.QuerySources.{queries_are_over_sources, relation_is_over_sources}
+use Rattle.whc.specs.declared.status.Status.{Status}
+use Rattle.whc.specs.declared.status.Status.TheVariants as status
+use Rattle.whc.specs.declared.stop.Stop.{Stop}
+use Rattle.whc.specs.Ask.{answer_in, answered, asking, found_or, opened, query_in, query_or_fault, relation_in, relation_named, relation_place, relation_query}
+use Rattle.whc.specs.AskLaws.{DumpPrintsRelation, PrintsQuery, PrintsRelation, QueryPrintsAnswer, StandsFor, dump_words, query_words}
+use Rattle.whc.specs.Commands.{Command, query, dump, expected}
+use Rattle.whc.specs.Disks.{BothRest, BothLeave}
+use Rattle.whc.specs.Ends.{Ends}
+use Rattle.whc.specs.Inputs.{and_then}
+use Rattle.whc.specs.Outcome.{texts}
+use Rattle.whc.specs.Run.{View, Scene, Reports, Answers}
+use Rattle.whc.proofs.Follows.{finishes_of, over_disks}
+use Rattle.whc.proofs.Shown.{never_ok}
+
+-- ---- a text that was printed whole
+
+record Printed (wanted : Result (List ℕ) Stop) (before after : Option (List ℕ)) : Type 0 where
+  pub text : List ℕ
+  pub is : wanted ≡ Ok text
+  pub printed : after ≡ gained before text
+
+whole_text : (start : Holding) (wanted : Result (List ℕ) Stop) (answer : Status) (before after : Option (List ℕ)) → (asking start wanted).finish ≡ Ok answer → after ≡ gained before (texts (asking start wanted).pieces) → Printed wanted before after
+whole_text start (Ok text) answer before after is printed = record { text = text; is = refl; printed = printed ∙ ap (gained before) (append-nil text) }
+whole_text start (Err stop) answer before after is printed = absurd (cc (is))
+
+module _ {D : Type 0} (before after : Scene D) (start : Holding) (wanted : Result (List ℕ) Stop) (Rests : Holding → Type 0) (Leaves : Holding → Holding → Type 0) where
+  by_finish : (finish : Result Status Stop) → Ends (asking start wanted) Rests Leaves before.view.out after.view.out finish → Reports finish before after status.Ok → Printed wanted before.view.out after.view.out
+  by_finish (Ok answer) ends reports = whole_text start wanted answer before.view.out after.view.out ends.finish_is ends.printed
+  by_finish (Err stop) ends reports = absurd (never_ok stop reports.err_failed reports.status)
+
+-- ---- what was asked
+
+record Asked (spec : Spec) (tables : List (List Row)) (asked : Result Query Stop) (text : List ℕ) : Type 0 where
+  pub q : Query
+  pub is : asked ≡ Ok q
+  pub text_is : text ≡ answer_text spec tables q
+
+by_answer : (image : Image) (r : Result Query Stop) (text : List ℕ) → answer_in image r ≡ Ok text → Asked image.spec image.tables r text
+by_answer image (Ok q) text is = record { q = q; is = refl; text_is = cc (is) }
+by_answer image (Err stop) text is = absurd (cc (is))
+
+module _ {D : Type 0} (content : D → Option (List ℕ)) (images : D → List ℕ → Type 0) (view : View D) (spec : Spec) (s : State) (n : ℕ) (for : StandsFor content images view spec s n) (ask : Spec → Result Query Stop) (text : List ℕ) where
+  asked_of : answered for.state ask ≡ Ok text → Asked spec (stored spec s) (ask spec) text
+  asked_of is =
+      let image = for.stands.active.image in
+      let state_is : for.state ≡ Ok (Some for.stands.active) = sym for.rest.is ∙ for.stands.holds in
+      let here : answer_in image (ask image.spec) ≡ Ok text = sym (ap (λ (h : Holding). answered h ask) state_is) ∙ is in
+      let a = by_answer image (ask image.spec) text here in
+      record {
+        q = a.q;
+        is = ap ask (sym for.stands.spec_is) ∙ a.is;
+        text_is = a.text_is ∙ (λ i. answer_text (for.stands.spec_is i) (for.stands.tables i) a.q);
+      }
+
+-- ---- the query of a text
+
+query_from : (r : Result Query QueryFault) (q : Query) → query_or_fault r ≡ Ok q → r ≡ Ok q
+query_from (Ok p) q is = cc (is)
+query_from (Err found) q is = absurd (cc (is))
+
+-- ---- the query of a relation's name
+
+place_within : (test : Relation → Bool) (relations : List Relation) (r : ℕ) → position test relations ≡ Some r → r < length relations
+place_within test relations r is = by (nat_lt (position_or_len test relations) (length relations)) refl is
+  where
+    by : (b : Bool) → nat_lt (position_or_len test relations) (length relations) ≡ b → cond b (Some (position_or_len test relations)) None ≡ Some r → r < length relations
+    by true e found =
+        let same : position_or_len test relations ≡ r = cc (found) in
+        let below : nat_lt r (length relations) ≡ true = sym (ap (λ (k : ℕ). nat_lt k (length relations)) same) ∙ e in
+        grind (arith, nat_tests)
+    by false e found = absurd (cc (found))
+
+record Named (spec : Spec) (word : List ℕ) (q : Query) : Type 0 where
+  pub relation : ℕ
+  pub relation_is : relation_named spec word ≡ Ok relation
+  pub within : relation < length spec.relations
+  pub query_is : q ≡ relation_query spec relation
+
+named_from : (spec : Spec) (word : List ℕ) (o : Option ℕ) (q : Query) → relation_place word spec.relations ≡ o → and_then (found_or word o) (λ r. Ok (relation_query spec r)) ≡ Ok q → Named spec word q
+named_from spec word (Some r) q place is = record {
+  relation = r;
+  relation_is = ap (found_or word) place;
+  within = place_within (λ t. name_eq t.name word) spec.relations r place;
+  query_is = cc (is);
+}
+named_from spec word None q place is = absurd (cc (is))
+
+-- ---- the laws
+
+module _ {D : Type 0} (content : D → Option (List ℕ)) (faults : D → ℕ) (images : D → List ℕ → Type 0) where
+  pub query_prints_answer : QueryPrintsAnswer content faults images
+  query_prints_answer text held spec s n before after told for answers =
+      let command = query text in
+      let ends = finishes_of content faults images (query_words text) command before after status.Ok refl answers in
+      let p =
+      by_finish before after for.state (answered for.state (query_in text)) (BothRest content images after.view.first after.view.second) (BothLeave images after.view.first after.view.second) answers.finish
+      (over_disks content images command held for.state before.view after.view answers.finish told ends for.rest) answers.reports in
+      let a = asked_of content images before.view spec s n for (query_in text) p.text p.is in
+      let is = query_from (query_of_text spec text) a.q a.is in
+      record {
+        query = a.q;
+        query_is = is;
+        printed = p.printed ∙ ap (gained before.view.out) (a.text_is ∙ answers_are_of_state spec s a.q for.stands.legal (queries_are_over_sources spec text a.q is));
+      }
+
+  pub dump_prints_relation : DumpPrintsRelation content faults images
+  dump_prints_relation word held spec s n before after told for answers =
+      let command = dump word in
+      let ends = finishes_of content faults images (dump_words word) command before after status.Ok refl answers in
+      let p =
+      by_finish before after for.state (answered for.state (relation_in word)) (BothRest content images after.view.first after.view.second) (BothLeave images after.view.first after.view.second) answers.finish
+      (over_disks content images command held for.state before.view after.view answers.finish told ends for.rest) answers.reports in
+      let a = asked_of content images before.view spec s n for (relation_in word) p.text p.is in
+      let m = named_from spec word (relation_place word spec.relations) a.q refl a.is in
+      let over : IsOverSources spec a.q = subst (IsOverSources spec) (sym m.query_is) (relation_is_over_sources spec m.relation (relation_at spec m.relation).attrs m.within) in
+      record {
+        relation = m.relation;
+        relation_is = m.relation_is;
+        printed = p.printed ∙ ap (gained before.view.out) (a.text_is ∙ answers_are_of_state spec s a.q for.stands.legal over ∙ ap (text_over spec (state_rows spec s)) m.query_is);
+      }
