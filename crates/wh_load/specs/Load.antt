@@ -1,5 +1,6 @@
 -- What loading answers.
-use Rattle.std.specs.Prelude.{◌≡◌, ℕ, ◌+◌, Bool, nat_lt, List, [], ◌∷◌, length, get_or, Option, None, Some, if◌then◌else◌}
+use Rattle.std.specs.Prelude.{◌≡◌, ℕ, nat_lt, List, [], length, get_or, Option, None, Some}
+use Rattle.std.specs.List.{position}
 use Rattle.wh_base.specs.declared.value.Value.{Value}
 use Rattle.wh_base.specs.RowSet.{AreDistinct}
 use Rattle.wh_load.specs.declared.fault.LoadFault.{LoadFault}
@@ -12,18 +13,9 @@ use Rattle.wh_schema.specs.Warehouse.{stored}
 abbrev pub HasDistinctRows : List (List (List Value)) → Type 0
 HasDistinctRows s = (i : ℕ) → AreDistinct (get_or s i [])
 
--- whether a table has more rows than are stored
-abbrev pub is_over : List (List Value) → Bool
-is_over rows = nat_lt 4000000 (length rows)
-
--- the first table with too many rows, counted from n
-abbrev pub first_over_from : ℕ → List (List (List Value)) → Option ℕ
-first_over_from n [] = None
-first_over_from n (rows ∷ tables) = if is_over rows then Some n else first_over_from (n + 1) tables
-
--- the number of the first table with too many rows, from 0
+-- the number of the first table, from 0, with more rows than are stored
 abbrev pub first_over : List (List (List Value)) → Option ℕ
-first_over tables = first_over_from 0 tables
+first_over tables = position (λ rows. nat_lt 4000000 (length rows)) tables
 
 -- what a fault says of tables that are to be stored
 abbrev pub IsOver : List (List (List Value)) → LoadFault → Type 0

@@ -1,5 +1,5 @@
-ghost use Rattle.std.specs.Prelude.{◌≡◌, ◌<◌, ◌^◌, None, length, nat_lt, IfOk, OnOk, IfErr};
-ghost use Rattle.wh_load.specs.Load.{is_over, first_over, IsOver};
+ghost use Rattle.std.specs.Prelude.{◌≡◌, ◌<◌, ◌^◌, None, length, IfOk, OnOk, IfErr, IfSome};
+ghost use Rattle.wh_load.specs.Load.{first_over, IsOver};
 
 use crate::fault::LoadFault;
 use wh_base::{Rows, StoredRows};
@@ -7,22 +7,13 @@ use wh_base::{Rows, StoredRows};
 /// The most rows that a stored table may have.
 const MOST_ROWS: usize = 4_000_000;
 
-fn is_over(rows: &Rows) -> bool
-    ensures { result ≡ is_over rows.now }
+/// The first table with too many rows.
+#[tactic(auto, using(crate::proofs::LimitLemmas::over_within))]
+fn first_over(tables: &[Rows]) -> Option<usize>
+    ensures first { result ≡ first_over tables.now }
+    ensures within { IfSome result (λ table. table < length tables.now) }
 {
-    MOST_ROWS < rows.len()
-}
-
-fn first_over(tables: &[Rows]) -> Option<u32>
-    requires { length tables.now < 2 ^ 32 }
-    ensures { result ≡ first_over tables.now }
-{
-    for (number, rows) in tables.iter().enumerate() {
-        if is_over(rows) {
-            return Some(number as u32);
-        }
-    }
-    None
+    tables.iter().position(|rows| rows.len() > MOST_ROWS)
 }
 
 /// The tables, where none has too many rows; else the first one that has.
@@ -33,7 +24,9 @@ pub fn limited(tables: StoredRows) -> Result<StoredRows, LoadFault>
     ensures fault { IfErr result (IsOver tables) }
 {
     match first_over(tables.as_slice()) {
-        Some(table) => Err(LoadFault::RowLimit { table }),
+        Some(table) => Err(LoadFault::RowLimit {
+            table: table as u32,
+        }),
         None => Ok(tables),
     }
 }
