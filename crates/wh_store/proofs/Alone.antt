@@ -10,7 +10,7 @@ use Rattle.wh_schema.specs.declared.spec.Spec.{Spec}
 use Rattle.wh_schema.specs.Warehouse.{Row}
 use Rattle.wh_store.specs.Creation.{IsKeptOrAlone}
 use Rattle.wh_store.specs.Image.{holding}
-use Rattle.wh_store.specs.Store.{are_empty, loaded, IsEmptyOrLoaded}
+use Rattle.wh_store.specs.Store.{are_empty, is_too_large, loaded, IsEmptyOrLoaded}
 use Rattle.wh_store.proofs.StoredLemmas.{and_true}
 
 cleared_empty : (file : List ℕ) → is_empty (cleared file) ≡ true
@@ -59,7 +59,7 @@ module _ {D : Type 0} (moment : D → ℕ) (images_since : D → ℕ → List �
 
   module _ (spec : Spec) (tables : List (List Row)) where
     abbrev Holds : List ℕ → Type 0
-    Holds body = (image second : List ℕ) → frames_of image ≡ Ok (body ∷ []) → is_empty second ≡ true → holding image second ≡ Ok (Some (loaded spec tables))
+    Holds body = (image second : List ℕ) → frames_of image ≡ Ok (body ∷ []) → is_empty second ≡ true → (is_too_large spec tables ≡ false) × (holding image second ≡ Ok (Some (loaded spec tables)))
 
     loaded_step : (a b body image : List ℕ) → Holds body → is_empty a ≡ true → is_empty b ≡ true → IsKeptOrAlone a body image → IsEmptyOrLoaded spec tables b image
     loaded_step a b body image holds a_empty b_empty (inl same) = inl (ap is_empty same ∙ a_empty)

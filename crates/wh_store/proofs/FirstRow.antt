@@ -43,7 +43,7 @@ can_apply_five tables deltas one_table one_delta =
   where
     at : (k : ℕ) → k ≡ 0 → CanApply (table_at (record { rows = []; width = 1; indexes = []; spare = 0 } ∷ []) k).rows (get_or (record { deleted = []; inserted = (Int (pos 5) ∷ []) ∷ [] } ∷ []) k no_delta)
     at k first = subst (λ (n : ℕ). CanApply (table_at (record { rows = []; width = 1; indexes = []; spare = 0 } ∷ []) n).rows (get_or (record { deleted = []; inserted = (Int (pos 5) ∷ []) ∷ [] } ∷ []) n no_delta)) (sym first)
-      (record { present = refl; absent = refl; deleted_once = none_distinct; inserted_once = one_distinct (Int (pos 5) ∷ []) })
+        (record { present = refl; absent = refl; deleted_once = none_distinct; inserted_once = one_distinct (Int (pos 5) ∷ []) })
 
 pub five_is_spelled : (deltas : List Delta) → deltas ≡ record { deleted = []; inserted = (Int (pos 5) ∷ []) ∷ [] } ∷ [] → AllByRecursion IsSpelledDelta deltas
 five_is_spelled deltas one_delta = subst (AllByRecursion IsSpelledDelta) (sym one_delta) (record { deleted = none_spelled; inserted = five_spelled }, tt)

@@ -55,9 +55,9 @@ IsCreated spec tables first second (Err fault.DiskFault) = Unit {0}
 IsCreated spec tables first second (Err fault.NoMemory) = Unit {0}
 IsCreated spec tables first second (Err other) = ⊥
 
--- the two files are as they were, or hold what was loaded: what a crash may leave of the first, beside the second
+-- the two files are as they were, or hold what was loaded, which is within the limit: what a crash may leave of the first, beside the second
 abbrev pub IsEmptyOrLoaded : Spec → List (List Row) → List ℕ → List ℕ → Type 0
-IsEmptyOrLoaded spec tables second image = (is_empty image ≡ true) ⊎ (holding image second ≡ Ok (Some (loaded spec tables)))
+IsEmptyOrLoaded spec tables second image = (is_empty image ≡ true) ⊎ ((is_too_large spec tables ≡ false) × (holding image second ≡ Ok (Some (loaded spec tables))))
 
 -- ---- open
 

@@ -24,6 +24,5 @@ pub use warehouse::{Place, Warehouse, Which};
 
 #[cfg(test)]
 mod commit_tests;
-
 #[cfg(test)]
 mod tests;

@@ -18,7 +18,7 @@ returns-in_err-journal-clause-any_moment g c = λ settled.
     created_leaves g.D.Disk.moment g.D.Disk.images_since spec rows _ _ _ _ _ _ _ _ c.in_ok-both_empty.ensures.first_same settled c.both_empty.ensures.first_moments
     (c.write_alone.ensures.any_moment c.in_ok-both_empty.ensures.first_durable)
     (λ image second frames empty.
-    alone_holds spec rows c.requires.textual c.requires.few c.requires.tables few spelled image second (frames ∙ ap (λ (b : List ℕ). Ok (b ∷ [])) c.in_ok-framed.ensures.frame) empty)
+    (c.in_ok-framed.ensures.small, alone_holds spec rows c.requires.textual c.requires.few c.requires.tables few spelled image second (frames ∙ ap (λ (b : List ℕ). Ok (b ∷ [])) c.in_ok-framed.ensures.frame) empty))
 
 pub returns-clause-any_moment : goal.returns-clause-any_moment
 returns-clause-any_moment g c = λ settled.
@@ -29,7 +29,7 @@ returns-clause-any_moment g c = λ settled.
     created_leaves g.D.Disk.moment g.D.Disk.images_since spec rows _ _ _ _ _ _ _ _ c.in_ok-both_empty.ensures.first_same settled c.both_empty.ensures.first_moments
     (c.write_alone.ensures.any_moment c.in_ok-both_empty.ensures.first_durable)
     (λ image second frames empty.
-    alone_holds spec rows c.requires.textual c.requires.few c.requires.tables few spelled image second (frames ∙ ap (λ (b : List ℕ). Ok (b ∷ [])) c.in_ok-framed.ensures.frame) empty)
+    (c.in_ok-framed.ensures.small, alone_holds spec rows c.requires.textual c.requires.few c.requires.tables few spelled image second (frames ∙ ap (λ (b : List ℕ). Ok (b ∷ [])) c.in_ok-framed.ensures.frame) empty))
 
 pub returns-clause-made : goal.returns-clause-made
 returns-clause-made g c =
