@@ -62,13 +62,36 @@ fn what_is_asked_of_a_loaded_store_is_printed(rt: HostRuntime) -> Result<(), Fai
         Row(&["load", "spec_b.txt", "dir_a"], Status::Ok, loaded, ""),
         Row(&["query", gone], Status::Ok, "clerk\nPaula\n", ""),
         Row(&["query", mary], Status::Ok, "clerk,age\nMary,23\n", ""),
-        Row(&["dump", "Sale"], Status::Ok, "item,clerk\nPC,John\nTV,Mary\nVCR,Mary\n", ""),
-        Row(&["query", "select (age = 'x') Emp"], Status::BadInput, "", "query: byte 0: kinds differ\n"),
-        Row(&["query", "C_Emp"], Status::BadInput, "", "query: byte 0: unknown name\n"),
-        Row(&["dump", "Sold"], Status::BadInput, "", "input: unknown relation Sold\n"),
+        Row(
+            &["dump", "Sale"],
+            Status::Ok,
+            "item,clerk\nPC,John\nTV,Mary\nVCR,Mary\n",
+            "",
+        ),
+        Row(
+            &["query", "select (age = 'x') Emp"],
+            Status::BadInput,
+            "",
+            "query: byte 0: kinds differ\n",
+        ),
+        Row(
+            &["query", "C_Emp"],
+            Status::BadInput,
+            "",
+            "query: byte 0: unknown name\n",
+        ),
+        Row(
+            &["dump", "Sold"],
+            Status::BadInput,
+            "",
+            "input: unknown relation Sold\n",
+        ),
     ];
     for (number, row) in rows.iter().enumerate() {
-        assert!(rt; holds(&rt, alloc, &mut steps, &mut first, &mut second, row)?, "row {number}");
+        assert!(rt;
+            holds(&rt, alloc, &mut steps, &mut first, &mut second, row)?,
+            "row {number}"
+        );
     }
     Ok(())
 }

@@ -2,6 +2,8 @@
 #![tactic(auto)]
 
 mod ask;
+#[cfg(test)]
+mod ask_tests;
 mod command;
 mod inputs;
 mod laws;
@@ -12,8 +14,6 @@ mod show;
 mod status;
 mod stop;
 mod store;
-#[cfg(test)]
-mod ask_tests;
 #[cfg(test)]
 mod store_tests;
 #[cfg(test)]
