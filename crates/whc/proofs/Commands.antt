@@ -7,7 +7,7 @@ use Rattle.wh_io.specs.Files.{Held}
 use Rattle.wh_store.specs.Image.{Holding, holding}
 use Rattle.whc.specs.declared.status.Status.{Status}
 use Rattle.whc.specs.declared.stop.Stop.{Stop}
-use Rattle.whc.specs.declared.stop.Stop.TheVariants.{ReadFault}
+use Rattle.whc.specs.declared.stop.Stop.TheVariants.{ReadFault, Usage}
 use Rattle.whc.specs.Ask.{EndsAsk, answered, dump_outcome, one_text, query_in, query_outcome, relation_in}
 use Rattle.whc.specs.Commands.{Command, show, plan, load, query, dump, command_of, expected, expected_of, is_apart, IsEndStatus}
 use Rattle.whc.specs.Disks.{BothRest, BothLeave, CrashReaches}
@@ -277,3 +277,41 @@ module _ {S : Type 0} (bytes_of : S → List ℕ) where
       let here : bytes_eq (bytes_of v) (codes "dump") ≡ true = ap (λ (w : S). bytes_eq (bytes_of w) (codes "dump")) (sym is) ∙ named in
       let spelled : bytes_of v ≡ codes "dump" = (bytes_eq-Decides (bytes_of v) (codes "dump")).0 here in
       ap (λ (l : List ℕ). command_of (l ∷ bytes_of s ∷ [])) spelled ∙ (λ i. Some (dump (bytes_of (sym said_is i))))
+
+  abbrev isnt : S → List ℕ → Type 0
+  isnt word verb = bytes_eq (bytes_of word) verb ≡ false
+
+  pub one_none : (words : List S) (a b c : S) → a ≡ get_or words 0 a → b ≡ get_or words 0 b → c ≡ get_or words 0 c → 2 ≤ length words → length words < 3 → isnt a (codes "plan") → isnt b (codes "query") → isnt c (codes "dump") → command_of (map bytes_of words) ≡ None
+  one_none [] a b c a_is b_is c_is least most x y z = absurd (omega arith)
+  one_none (v ∷ []) a b c a_is b_is c_is least most x y z = absurd (omega arith)
+  one_none (v ∷ s ∷ t ∷ more) a b c a_is b_is c_is least most x y z = absurd (omega arith)
+  one_none (v ∷ s ∷ []) a b c a_is b_is c_is least most x y z =
+      let no_plan : isnt v (codes "plan") = ap (λ (w : S). bytes_eq (bytes_of w) (codes "plan")) (sym a_is) ∙ x in
+      let no_query : isnt v (codes "query") = ap (λ (w : S). bytes_eq (bytes_of w) (codes "query")) (sym b_is) ∙ y in
+      let no_dump : isnt v (codes "dump") = ap (λ (w : S). bytes_eq (bytes_of w) (codes "dump")) (sym c_is) ∙ z in
+      (λ i. if no_plan i then Some (plan (bytes_of s)) else if no_query i then Some (query (bytes_of s)) else if no_dump i then Some (dump (bytes_of s)) else None)
+
+  pub two_none : (words : List S) (a b : S) → a ≡ get_or words 0 a → b ≡ get_or words 0 b → 3 ≤ length words → length words < 4 → isnt a (codes "show") → isnt b (codes "load") → command_of (map bytes_of words) ≡ None
+  two_none [] a b a_is b_is least most x y = absurd (omega arith)
+  two_none (v ∷ []) a b a_is b_is least most x y = absurd (omega arith)
+  two_none (v ∷ s ∷ []) a b a_is b_is least most x y = absurd (omega arith)
+  two_none (v ∷ s ∷ d ∷ t ∷ more) a b a_is b_is least most x y = absurd (omega arith)
+  two_none (v ∷ s ∷ d ∷ []) a b a_is b_is least most x y =
+      let no_show : isnt v (codes "show") = ap (λ (w : S). bytes_eq (bytes_of w) (codes "show")) (sym a_is) ∙ x in
+      let no_load : isnt v (codes "load") = ap (λ (w : S). bytes_eq (bytes_of w) (codes "load")) (sym b_is) ∙ y in
+      (λ i. if no_show i then Some (show (bytes_of s) (bytes_of d)) else if no_load i then Some (load (bytes_of s) (bytes_of d)) else None)
+
+  pub few_none : (words : List S) → length words < 2 → command_of (map bytes_of words) ≡ None
+  few_none [] few = refl
+  few_none (v ∷ []) few = refl
+  few_none (v ∷ s ∷ more) few = absurd (omega arith)
+
+  pub many_none : (words : List S) → 4 ≤ length words → command_of (map bytes_of words) ≡ None
+  many_none [] many = absurd (omega arith)
+  many_none (v ∷ []) many = absurd (omega arith)
+  many_none (v ∷ s ∷ []) many = absurd (omega arith)
+  many_none (v ∷ s ∷ d ∷ []) many = absurd (omega arith)
+  many_none (v ∷ s ∷ d ∷ t ∷ more) many = refl
+
+pub none_finishes : {D : Type 0} (content : D → Option (List ℕ)) (images : D → List ℕ → Type 0) (named : Option Command) (view : View D) → named ≡ None → Finishes content images named view view (Err Usage)
+none_finishes content images named view is = subst (λ (o : Option Command). Finishes content images o view view (Err Usage)) (sym is) (refl, refl, refl, refl)

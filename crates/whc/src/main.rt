@@ -2,8 +2,6 @@
 #![tactic(auto)]
 
 mod ask;
-#[cfg(test)]
-mod ask_tests;
 mod command;
 mod inputs;
 mod laws;

@@ -11,12 +11,12 @@ use wh_steps::{NoLedger, Steps};
 // A run: its words, the files that are held, and the calls that fail.
 #[derive(Clone, Copy)]
 pub(crate) struct Case<'a> {
-    words: &'a [&'a str],
-    held: &'a [(&'a str, &'a [u8])],
-    read_fails: &'a [u64],
-    out_most: u64,
-    out_fails: &'a [u64],
-    err_fails: &'a [u64],
+    pub(crate) words: &'a [&'a str],
+    pub(crate) held: &'a [(&'a str, &'a [u8])],
+    pub(crate) read_fails: &'a [u64],
+    pub(crate) out_most: u64,
+    pub(crate) out_fails: &'a [u64],
+    pub(crate) err_fails: &'a [u64],
 }
 
 // What it comes to: the status, and what stands on `out` and on `err`.
