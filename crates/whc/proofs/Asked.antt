@@ -1,9 +1,8 @@
 -- What `query` and `dump` have printed after Ok, over the state that the store stands for.
-use Rattle.std.proofs.Common.{◌≡◌, ℕ, ◌<◌, Bool, true, false, cond, nat_lt, List, [], ◌∷◌, ◌++◌, length, append-nil, Option, None, Some, Result, Ok, Err, refl, sym, ◌∙◌, ap, subst, arith}
+use Rattle.std.proofs.Common.{◌≡◌, ℕ, ◌<◌, Bool, true, false, cond, nat_lt, List, length, append-nil, Option, None, Some, Result, Ok, Err, refl, sym, ◌∙◌, ap, subst, arith}
 use Rattle.std.specs.List.{position, position_or_len}
 use Rattle.std.proofs.lemmas.Bool.Decides.{nat_tests}
 use Rattle.wh_base.specs.Columns.{name_eq}
-use Rattle.wh_io.specs.Files.{Held}
 use Rattle.wh_io.specs.Sink.{gained}
 use Rattle.wh_query_text.specs.declared.fault.QueryFault.{QueryFault}
 use Rattle.wh_query_text.specs.declared.parsing.Query.{Query}
@@ -18,14 +17,14 @@ use Rattle.wh_answer.proofs.QuerySources.{queries_are_over_sources, relation_is_
 use Rattle.whc.specs.declared.status.Status.{Status}
 use Rattle.whc.specs.declared.status.Status.TheVariants as status
 use Rattle.whc.specs.declared.stop.Stop.{Stop}
-use Rattle.whc.specs.Ask.{answer_in, answered, asking, found_or, opened, query_in, query_or_fault, relation_in, relation_named, relation_place, relation_query}
-use Rattle.whc.specs.AskLaws.{DumpPrintsRelation, PrintsQuery, PrintsRelation, QueryPrintsAnswer, StandsFor, dump_words, query_words}
-use Rattle.whc.specs.Commands.{Command, query, dump, expected}
+use Rattle.whc.specs.Ask.{answer_in, answered, asking, found_or, query_in, query_or_fault, relation_in, relation_named, relation_place, relation_query}
+use Rattle.whc.specs.AskLaws.{DumpPrintsRelation, QueryPrintsAnswer, StandsFor, dump_words, query_words}
+use Rattle.whc.specs.Commands.{query, dump}
 use Rattle.whc.specs.Disks.{BothRest, BothLeave}
 use Rattle.whc.specs.Ends.{Ends}
 use Rattle.whc.specs.Inputs.{and_then}
 use Rattle.whc.specs.Outcome.{texts}
-use Rattle.whc.specs.Run.{View, Scene, Reports, Answers}
+use Rattle.whc.specs.Run.{View, Scene, Reports}
 use Rattle.whc.proofs.Follows.{finishes_of, over_disks}
 use Rattle.whc.proofs.Shown.{never_ok}
 

@@ -1,5 +1,5 @@
 -- Commands that print rows of a store, which stays as it is.
-use Rattle.std.proofs.Common.{◌≡◌, ℕ, ◌<◌, ◌≤◌, false, true, true≢false, List, [], ◌∷◌, ◌++◌, length, get_or, append-nil, Option, None, Some, IfSome, Result, Ok, Err, refl, sym, ◌∙◌, ap, subst, arith}
+use Rattle.std.proofs.Common.{◌≡◌, ℕ, ◌<◌, false, true, true≢false, List, [], ◌++◌, length, get_or, append-nil, Option, None, Some, IfSome, Result, Ok, Err, refl, sym, ◌∙◌, ap, subst, arith}
 use Rattle.std.proofs.lemmas.List.{get_or-map}
 use Rattle.wh_base.specs.RowSet.{SameRows}
 use Rattle.wh_io.specs.Sink.{gained, GainsPrefix}
@@ -9,18 +9,17 @@ use Rattle.wh_schema.specs.declared.spec.Spec.{Spec}
 use Rattle.wh_schema.specs.Warehouse.{Row}
 use Rattle.wh_store.specs.declared.warehouse.Warehouse.{Warehouse}
 use Rattle.wh_store.specs.Image.{Image, Holding, holding, stored_count}
-use Rattle.wh_store.specs.Warehouse.{IsWarehouseOf, no_table, table_at}
+use Rattle.wh_store.specs.Warehouse.{IsWarehouseOf, no_table}
 use Rattle.wh_table.specs.Table.{IndexedRows}
 use Rattle.wh_answer.specs.Answer.{SameStored, answer_text, rows_of}
 use Rattle.whc.specs.declared.status.Status.{Status}
-use Rattle.whc.specs.declared.status.Status.TheVariants as status
 use Rattle.whc.specs.declared.stop.Stop.{Stop}
 use Rattle.whc.specs.declared.stop.Stop.TheVariants.{ReadFault, WriteFault, DiskFault, NoMemory}
 use Rattle.whc.specs.Ask.{EndsAsk, IsNeeded, TellsText, answer_in, answered, asking, one_text, opened}
-use Rattle.whc.specs.Disks.{BothRest, BothLeave, CrashReaches}
+use Rattle.whc.specs.Disks.{BothRest, BothLeave}
 use Rattle.whc.specs.Ends.{Ends, EndsWhole}
 use Rattle.whc.specs.Inputs.{and_then}
-use Rattle.whc.specs.Outcome.{Outcome, state_after}
+use Rattle.whc.specs.Outcome.{state_after}
 use Rattle.whc.specs.Steps.{Settles, UnlessOutside, is_outside, is_write_fault}
 use Rattle.whc.proofs.Commands.{stays_start}
 use Rattle.whc.proofs.Stores.{Stays, CountsNow, rest_still, leave_still, crash_still}

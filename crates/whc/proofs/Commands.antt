@@ -14,9 +14,9 @@ use Rattle.whc.specs.Disks.{BothRest, BothLeave, CrashReaches}
 use Rattle.whc.specs.Ends.{Ends, EndsBy, Way, whole, between, in_text, in_commit, way_of}
 use Rattle.whc.specs.Inputs.{IsNextFile}
 use Rattle.whc.specs.Load.{loading, EndsLoad}
-use Rattle.whc.specs.Outcome.{Outcome, stays, IsReached}
+use Rattle.whc.specs.Outcome.{Outcome, stays}
 use Rattle.whc.specs.Plan.{plan_texts}
-use Rattle.whc.specs.Run.{View, EndsFrom, EndsApart, EndsAs, Finishes, Crashes, LeavesBytes}
+use Rattle.whc.specs.Run.{View, EndsFrom, EndsAs, Finishes, Crashes, LeavesBytes}
 use Rattle.whc.specs.Show.{show_texts}
 use Rattle.whc.specs.Steps.{NamesRead, is_usage, is_store_stop, is_read_fault}
 use Rattle.whc.proofs.Loads.{loads_start}

@@ -1,9 +1,9 @@
 -- What is stored of dumps may be loaded.
-use Rattle.std.proofs.Common.{◌≡◌, ℕ, zero, suc, ◌<◌, true, List, [], ◌∷◌, length, get_or, Ok, refl, sym, ap, subst, arith}
+use Rattle.std.proofs.Common.{◌≡◌, ℕ, zero, suc, ◌<◌, true, List, [], ◌∷◌, length, get_or, refl, sym, subst, arith}
 use Rattle.std.specs.List.{AllByRecursion}
 use Rattle.wh_base.specs.RowSet.{IsAscending}
 use Rattle.wh_codec.specs.Body.{IsSpelledRow}
-use Rattle.wh_fit.specs.Fit.{AreDumps, IsLoad}
+use Rattle.wh_fit.specs.Fit.{IsLoad}
 use Rattle.wh_fit.proofs.Loads.{loads}
 use Rattle.wh_schema.specs.declared.spec.Relation.{Relation}
 use Rattle.wh_schema.specs.declared.spec.Spec.{Spec}

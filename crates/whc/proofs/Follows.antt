@@ -14,12 +14,12 @@ use Rattle.whc.specs.declared.stop.Stop.TheVariants.{ReadFault, WriteFault, Disk
 use Rattle.whc.specs.Ask.{answered, one_text, query_in, relation_in}
 use Rattle.whc.specs.Commands.{Command, show, plan, load, query, dump, is_apart, are_apart, command_of, expected, IsEndStatus}
 use Rattle.whc.specs.Disks.{BothRest, BothLeave}
-use Rattle.whc.specs.Ends.{Ends, EndsBy, EndsWhole, EndsBetween, Way, way_of, whole, between, in_text, in_commit}
+use Rattle.whc.specs.Ends.{Ends, EndsBy, EndsWhole, Way, whole, between, in_text, in_commit}
 use Rattle.whc.specs.Laws.{Begins, Reaches, NoFault, ComesTo, IsRefused, IsApart, IsAcknowledged, is_refusal, is_store_status}
 use Rattle.whc.specs.declared.show.Shown.{Shown}
 use Rattle.whc.specs.Load.{loading, loads}
 use Rattle.whc.specs.Outcome.{Piece, Outcome, texts, text_at, state_after, last_state, stays}
-use Rattle.whc.specs.Run.{View, Scene, Finishes, EndsFrom, EndsApart, EndsAs, Reports, Answers}
+use Rattle.whc.specs.Run.{View, Scene, Finishes, EndsFrom, EndsAs, Reports, Answers}
 use Rattle.whc.specs.Plan.{plan_texts}
 use Rattle.whc.specs.Show.{show_texts}
 use Rattle.whc.specs.Steps.{is_read_fault, is_write_fault, is_disk_fault, is_store_stop}

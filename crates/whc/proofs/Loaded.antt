@@ -1,5 +1,5 @@
 -- What a load has read, and what it leaves.
-use Rattle.std.proofs.Common.{◌≡◌, ◌⊎◌, inl, inr, ℕ, zero, suc, ◌≤◌, Bool, true, false, nat_lt, if◌then◌else◌, List, [], ◌∷◌, ◌++◌, length, Option, None, Some, Result, Ok, Err, IfSome, OnOk, codes, refl, sym, ◌∙◌, ap, subst, arith, append-nil, append_assoc}
+use Rattle.std.proofs.Common.{◌≡◌, ◌⊎◌, inl, inr, ℕ, zero, suc, ◌≤◌, Bool, true, false, if◌then◌else◌, List, [], ◌∷◌, ◌++◌, length, Option, None, Some, Result, Ok, Err, IfSome, refl, sym, ◌∙◌, ap, subst, arith, append-nil, append_assoc}
 use Rattle.wh_csv.specs.declared.fault.CsvFault.{CsvFault}
 use Rattle.wh_csv.specs.declared.fault.CsvFault.TheVariants as csv
 use Rattle.wh_csv.specs.Dump.{dump_of}
@@ -28,10 +28,10 @@ use Rattle.whc.specs.Ends.{Ends, EndsWhole}
 use Rattle.whc.specs.Inputs.{and_then, file_of, parsed, planned, spec_in, spec_file, dump_name, dumped, dump_in, dump_file, dump_files, IsFromText, IsDumpOf, AreDumpsOf}
 use Rattle.whc.specs.Laws.{Sources, WritesSnapshot, LoadedStands, load_words}
 use Rattle.whc.specs.Load.{if_unloaded, within_file, gathered_by, gathered, loading, loads, load_outcome, loaded_text, loaded_state, HoldsSnapshot}
-use Rattle.whc.specs.Outcome.{Outcome, texts, state_after, last_state, IsReached}
-use Rattle.whc.specs.Run.{View, Scene, Reports, Answers, LeavesBytes}
+use Rattle.whc.specs.Outcome.{state_after, IsReached}
+use Rattle.whc.specs.Run.{Scene, Reports, Answers, LeavesBytes}
 use Rattle.whc.specs.Show.{shown, tables_within, tables_unless, tables_of}
-use Rattle.whc.specs.Words.{rows_words, warehouse_file_words}
+use Rattle.whc.specs.Words.{warehouse_file_words}
 use Rattle.wh_laws.proofs.Changes.{broken_none}
 use Rattle.whc.proofs.Fitting.{load_is}
 use Rattle.whc.proofs.Follows.{finishes_of, over_disks}

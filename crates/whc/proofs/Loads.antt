@@ -1,7 +1,7 @@
 -- A store is loaded: how that ends, and what a crash leaves.
-use Rattle.std.proofs.Common.{rules, ◌≡◌, ◌⊎◌, inl, inr, ℕ, zero, suc, ◌<◌, ◌≤◌, Bool, true, false, true≢false, ◌&&◌, if◌then◌else◌, List, [], ◌∷◌, ◌++◌, length, Option, None, Some, Result, Ok, Err, IfSome, OnOk, refl, sym, ◌∙◌, ap, subst, arith, append-nil}
+use Rattle.std.proofs.Common.{rules, ◌≡◌, ◌⊎◌, inl, inr, ℕ, Bool, true, false, true≢false, ◌&&◌, if◌then◌else◌, List, Option, None, Some, Result, Ok, Err, IfSome, OnOk, refl, sym, ◌∙◌, ap, subst, arith, append-nil}
 use Rattle.std.specs.Option.{option_map}
-use Rattle.wh_io.specs.Crash.{Only, IsSettled, IsImage, LeavesOnly}
+use Rattle.wh_io.specs.Crash.{IsSettled, IsImage, LeavesOnly}
 use Rattle.wh_io.specs.Files.{Held}
 use Rattle.wh_io.specs.Sink.{gained, GainsPrefix}
 use Rattle.wh_io.proofs.Gained.{gained_nothing}
@@ -12,18 +12,17 @@ use Rattle.wh_store.specs.Store.{are_empty, is_too_large, loaded_file, IsEmptyOr
 use Rattle.whc.specs.declared.load.Stock.{Stock}
 use Rattle.whc.specs.declared.show.Shown.{Shown}
 use Rattle.whc.specs.declared.status.Status.{Status}
-use Rattle.whc.specs.declared.status.Status.TheVariants as status
 use Rattle.whc.specs.declared.stop.Stop.{Stop}
 use Rattle.whc.specs.declared.stop.Stop.TheVariants.{ReadFault, WriteFault, DiskFault, Limit, NoMemory}
 use Rattle.whc.specs.Disks.{BothRest, BothLeave, CrashReaches}
 use Rattle.whc.specs.Ends.{Ends, EndsWhole}
 use Rattle.whc.specs.Inputs.{and_then}
 use Rattle.whc.specs.Load.{within_file, gathered, loading, loads, load_outcome, loaded_text, loaded_state, HoldsSnapshot, IsMade, IsReadByLoad, TellsLine, EndsKeep, EndsLoad, stock_shown}
-use Rattle.whc.specs.Outcome.{Outcome, Piece, texts, state_after, refused, IsReached}
+use Rattle.whc.specs.Outcome.{Outcome, state_after, IsReached}
 use Rattle.whc.specs.Show.{shown}
 use Rattle.whc.specs.Steps.{Settles, NamesRead, UnlessDisk, OnStop, is_read_fault, is_write_fault}
 use Rattle.whc.specs.Words.{warehouse_file_words}
-use Rattle.whc.proofs.Stores.{empty_holds, load_is_full, Stays, CountsNow, settled_on, rest_on, leave_on, crash_on, rest_still, leave_still, crash_still}
+use Rattle.whc.proofs.Stores.{empty_holds, load_is_full, Stays, CountsNow, rest_on, leave_on, rest_still, leave_still, crash_still}
 
 pub loads_start : (start : Holding) (r : Result Shown Stop) → (loads start r).start ≡ start
 loads_start start (Ok s) = refl

@@ -1,5 +1,5 @@
 -- A store is made: from the answer of its crate to the stop that is told.
-use Rattle.std.proofs.Common.{◌≡◌, ◌⊎◌, inl, inr, ℕ, Bool, true, false, List, Option, None, Some, Result, Ok, Err, IfSome, refl, sym, ◌∙◌, ap, subst}
+use Rattle.std.proofs.Common.{◌≡◌, inl, inr, ℕ, Bool, true, false, List, Option, None, Some, Result, Ok, Err, IfSome, refl, sym, ◌∙◌, subst}
 use Rattle.wh_io.specs.Causes.{IsCountedPair}
 use Rattle.wh_schema.specs.declared.spec.Spec.{Spec}
 use Rattle.wh_schema.specs.Warehouse.{Row}
@@ -8,7 +8,7 @@ use Rattle.wh_store.specs.declared.fault.StoreFault.TheVariants as fault
 use Rattle.wh_store.specs.declared.warehouse.Place.{Place}
 use Rattle.wh_store.specs.declared.warehouse.Warehouse.{Warehouse}
 use Rattle.wh_store.specs.Store as store
-use Rattle.wh_store.specs.Image.{Holding, holding}
+use Rattle.wh_store.specs.Image.{holding}
 use Rattle.whc.specs.declared.stop.Stop.{Stop}
 use Rattle.whc.specs.declared.stop.Stop.TheVariants.{DiskFault, Limit, NoMemory, AlreadyLoaded}
 use Rattle.whc.specs.Load.{IsMade, IsMakingStop, if_unloaded}

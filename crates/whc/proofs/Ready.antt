@@ -1,11 +1,10 @@
 -- What a load makes ready, step by step.
-use Rattle.std.proofs.Common.{◌≡◌, ◌⊎◌, inl, inr, ℕ, Bool, true, false, List, [], Option, None, Some, Result, Ok, Err, IfSome, refl, sym, ◌∙◌, ap, subst}
+use Rattle.std.proofs.Common.{◌≡◌, inl, inr, ℕ, Bool, true, false, List, Option, None, Some, Result, Ok, Err, IfSome, refl, sym, ap, subst}
 use Rattle.std.specs.Option.{option_map}
 use Rattle.wh_io.specs.Files.{Held}
 use Rattle.wh_plan.specs.declared.plan.Plan.{Plan}
 use Rattle.wh_schema.specs.declared.spec.Spec.{Spec}
 use Rattle.wh_store.specs.Image.{Holding, holding}
-use Rattle.wh_store.specs.Store.{are_empty}
 use Rattle.whc.specs.declared.load.Stock.{Stock}
 use Rattle.whc.specs.declared.show.Shown.{Shown}
 use Rattle.whc.specs.declared.stop.Stop.{Stop}

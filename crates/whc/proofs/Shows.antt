@@ -2,7 +2,6 @@
 use Rattle.std.proofs.Common.{◌≡◌, ℕ, ◌<◌, ◌≤◌, List, [], length, get_or, Option, None, Some, Result, Ok, Err, IfSome, refl, sym, ◌∙◌, ap, subst, arith}
 use Rattle.std.specs.Option.{option_map}
 use Rattle.wh_io.specs.Files.{Held}
-use Rattle.wh_io.specs.Sink.{gained}
 use Rattle.wh_io.proofs.Gained.{gained_nothing}
 use Rattle.wh_schema.specs.Warehouse.{Row}
 use Rattle.whc.specs.declared.status.Status.{Status}

@@ -1,12 +1,12 @@
 -- What the two files of a store stand for, and what a crash leaves of them.
-use Rattle.std.proofs.Common.{◌≡◌, ◌⊎◌, inl, inr, ℕ, zero, suc, ◌<◌, ◌≤◌, ◌+◌, Bool, true, false, true≢false, not, ◌&&◌, ◌==◌, nat_lt, if◌then◌else◌, List, [], ◌∷◌, ◌++◌, length, Option, None, Some, Result, Ok, Err, IfSome, refl, sym, ◌∙◌, ap, subst, arith, length-append}
+use Rattle.std.proofs.Common.{◌≡◌, ◌⊎◌, inl, ℕ, ◌≤◌, Bool, true, false, not, ◌&&◌, ◌==◌, nat_lt, if◌then◌else◌, List, [], ◌∷◌, ◌++◌, length, Option, None, Some, Result, Ok, Err, refl, sym, ◌∙◌, ap, subst, arith, length-append}
 use Rattle.std.specs.Int.{w64, to_be_bytes}
-use Rattle.wh_io.specs.Crash.{Only, IsSettled, IsImage, LeavesOnly}
-use Rattle.wh_journal.specs.File.{Walk, walk, walk_on, walk_within, behind, span, body_at, judged, frames_of, is_empty, is_open, framed}
+use Rattle.wh_io.specs.Crash.{Only, LeavesOnly}
+use Rattle.wh_journal.specs.File.{Walk, walk, walk_on, walk_within, behind, span, body_at, judged, is_empty, is_open, framed}
 use Rattle.wh_schema.specs.declared.spec.Spec.{Spec}
 use Rattle.wh_schema.specs.Warehouse.{Row}
 use Rattle.wh_store.specs.declared.warehouse.Which.TheVariants.{First, Second}
-use Rattle.wh_store.specs.Image.{Image, Holding, equal_generations, holding, both, chosen, later_of, file_image, image_of_frames, image_of_bodies, some_image, replayed_on, replayed}
+use Rattle.wh_store.specs.Image.{Image, Holding, equal_generations, holding, both, later_of, file_image, image_of_frames, some_image}
 use Rattle.wh_store.specs.Store.{are_empty, loaded_file, loaded_body}
 use Rattle.whc.specs.declared.stop.Stop.{Stop}
 use Rattle.whc.specs.declared.stop.Stop.TheVariants.{AlreadyLoaded}

@@ -2,7 +2,6 @@
 use Rattle.std.specs.Prelude.{◌≡◌, ◌⊎◌, ℕ, nat_lt, if◌then◌else◌, List, [], ◌∷◌, ◌++◌, length, Option, None, Some, Result, Ok, Err, codes}
 use Rattle.std.specs.Str.Lossy.{utf8_lossy}
 use Rattle.wh_base.specs.declared.value.Attr.{Attr}
-use Rattle.wh_base.specs.declared.value.Value.{Value}
 use Rattle.wh_csv.specs.declared.fault.CsvFault.{CsvFault}
 use Rattle.wh_csv.specs.declared.fault.CsvFault.TheVariants as csv
 use Rattle.wh_csv.specs.Dump.{dump_of}

@@ -1,6 +1,6 @@
 -- What a run of the program answers.
-use Rattle.std.specs.Prelude.{◌≡◌, ◌≤◌, ℕ, Bool, true, false, List, Option, None, Some, IfSome, IfOk, OnOk, Result, Ok, Err}
-use Rattle.wh_io.specs.Causes.{Rose, IsCounted, IsCountedPair}
+use Rattle.std.specs.Prelude.{◌≡◌, ℕ, true, false, List, Option, None, Some, IfSome, IfOk, OnOk, Result, Ok, Err}
+use Rattle.wh_io.specs.Causes.{IsCounted, IsCountedPair}
 use Rattle.wh_io.specs.Files.{Held}
 use Rattle.wh_store.specs.Image.{Holding}
 use Rattle.whc.specs.declared.status.Status.{Status}
@@ -11,7 +11,6 @@ use Rattle.whc.specs.Disks.{BothRest, BothLeave, CrashReaches}
 use Rattle.whc.specs.Ends.{Ends}
 use Rattle.whc.specs.Inputs.{IsNextFile}
 use Rattle.whc.specs.Load.{loading, IsReadByLoad, HoldsSnapshot}
-use Rattle.whc.specs.Outcome.{Outcome}
 use Rattle.whc.specs.Steps.{NamesRead, is_usage, is_store_stop, is_read_fault, is_write_fault, is_disk_fault}
 use Rattle.whc.specs.Stop.{IsTold}
 

@@ -1,5 +1,5 @@
 -- How a stop is told: its status, and its line on `err`.
-use Rattle.std.specs.Prelude.{◌≡◌, ℕ, Bool, true, false, if◌then◌else◌, List, ◌++◌, Option, Result, Ok, Err, codes}
+use Rattle.std.specs.Prelude.{◌≡◌, ℕ, Bool, true, false, if◌then◌else◌, List, ◌++◌, Option, codes}
 use Rattle.wh_base.specs.Lines.{line}
 use Rattle.wh_io.specs.Causes.{IsCounted}
 use Rattle.wh_io.specs.Sink.{gained, GainsPrefix}

@@ -109,7 +109,6 @@ fn compute<L: Ledger>(
 }
 
 /// The stored tables of a state that breaks no constraint, where none of them has too many rows.
-#[tactic(auto, using(crate::proofs::Fitting::text_is_well_formed))]
 pub fn tables_of<L: Ledger>(
     alloc: Global,
     plan: &Plan,

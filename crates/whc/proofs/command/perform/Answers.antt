@@ -1,4 +1,4 @@
-use Rattle.std.proofs.Common.{rules, ◌∙◌, ◌≡◌, ap, refl, sym, true, Some, List, ℕ}
+use Rattle.std.proofs.Common.{rules, ◌∙◌, ◌≡◌, ap, sym, true, Some, List, ℕ}
 use Rattle.std.specs.Prelude.{String, string_bytes, codes}
 use Rattle.std.specs.Str.{bytes_eq}
 use Rattle.std.specs.declared.alloc.Global.{Global}

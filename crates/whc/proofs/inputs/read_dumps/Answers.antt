@@ -1,8 +1,4 @@
-use Rattle.std.proofs.Common.{◌≡◌, ◌∙◌, ◌++◌, ◌∷◌, [], List, Option, Some, None, IfSome, refl, sym, ap, subst, ℕ, drop, ◌+◌, arith}
-use Rattle.wh_io.specs.Files.{Held}
-use Rattle.wh_load.specs.Load.{HasDistinctRows}
-use Rattle.wh_schema.specs.Warehouse.{State}
-use Rattle.whc.specs.Inputs.{dump_files}
+use Rattle.std.proofs.Common.{◌∙◌, refl, arith}
 use Rattle.whc.proofs.Dumps.{found_more, found_none, next_more, next_none, distinct_push, distinct_none, dumps_none, dumps_more, dumps_over}
 use Rattle.whc.proofs.inputs.read_dumps.Goals as goal
 

@@ -1,4 +1,4 @@
-use Rattle.std.proofs.Common.{◌≡◌, ℕ, drop, List, [], ◌∷◌, ◌++◌, IfSome}
+use Rattle.std.proofs.Common.{◌≡◌, ℕ, drop, List, [], ◌++◌, IfSome}
 use Rattle.wh_load.specs.Load.{HasDistinctRows}
 use Rattle.wh_schema.specs.Warehouse.{State}
 use Rattle.whc.specs.Inputs.{dump_files, AreDumpsOf, IsNextDump}
