@@ -8,6 +8,8 @@ pub mod GivenLemmas
 pub mod PieceLemmas
 pub mod Places
 pub mod PlanFacts
+pub mod SpecRules
+pub mod StoredSets
 pub mod Tests
 pub mod UsesLemmas
 pub mod WalkLemmas

@@ -12,3 +12,6 @@ mod walk;
 pub use inverse::Inverse;
 pub use laws::inverse_gives_state;
 pub use planned::have_keys;
+
+#[cfg(test)]
+mod look_up_tests;

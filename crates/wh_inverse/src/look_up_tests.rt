@@ -1,0 +1,333 @@
+// Look-ups over the stored tables of two relations and their join.
+ghost use Rattle.std.specs.Prelude.{◌≡◌, ◌+◌, ◌<◌, ◌∷◌, [], length, get_or, All, Some, IsTrue, IfOk, IfSome};
+ghost use Rattle.wh_base.specs.Columns.{all_in};
+ghost use Rattle.wh_base.specs.Heads.{attrs_at, columns_at};
+ghost use Rattle.wh_base.specs.RowSet.{AreDistinct};
+ghost use Rattle.wh_covers.specs.Covers.{IsNumbered};
+ghost use Rattle.wh_eval.specs.Stored.{FitHeads, fits, is_stored};
+ghost use Rattle.wh_inverse.specs.Inverse.{have_keys};
+ghost use Rattle.wh_plan.specs.Plan.{IsPlan};
+ghost use Rattle.wh_schema.specs.Heads.{heads_of};
+ghost use Rattle.wh_schema.specs.Legality.{WellFormed};
+ghost use Rattle.wh_table.specs.Table.{IsColumnSet};
+
+use super::*;
+use std::alloc::Global;
+use std::test::*;
+use wh_base::{
+    Bytes, ColumnSets, Delta, Duplicate, Heads, Name, Names, NoMemory, Row, Rows, Value, all_in,
+    distinct_rows, names_of,
+};
+use wh_eval::{Base, Stored, eval_where};
+use wh_expr::Expr;
+use wh_plan::{Plan, make_plan};
+use wh_schema::{Spec, heads};
+use wh_spec_text::parse_spec;
+use wh_steps::{CountLedger, Ledger, Steps};
+use wh_table::{Table, Tables};
+
+const SPEC: &[u8] = b"relation Emp(clerk text, age int) key (clerk);
+relation Sale(item text, clerk text) key (item, clerk);
+view Sold = Sale join Emp;
+";
+
+// The numbers of the relation Emp and of the view Sold.
+const EMP: u32 = 0;
+
+const SOLD: u32 = 2;
+
+// A row of texts and of an age behind them.
+type Listed<'a> = (&'a [&'a [u8]], i64);
+
+const SOLD_ROWS: &[Listed<'_>] = &[
+    (&[b"PC", b"John"], 25),
+    (&[b"TV", b"Mary"], 23),
+    (&[b"VCR", b"Mary"], 23),
+];
+
+// The relation Emp has the two clerks of the view besides.
+const EMP_COMPLEMENT: &[Listed<'_>] = &[(&[b"Paula"], 32)];
+
+fn parsed(alloc: Global) -> Option<Spec>
+    ensures rules { IfSome result WellFormed }
+    ensures numbered { IfSome result IsNumbered }
+{
+    match parse_spec(alloc, SPEC) {
+        Ok(spec) => Some(spec),
+        Err(_fault) => None,
+    }
+}
+
+fn planned(alloc: Global) -> Option<Plan>
+    ensures plan { IfSome result IsPlan }
+    ensures rules { IfSome result (λ plan. WellFormed plan.spec) }
+    ensures numbered { IfSome result (λ plan. IsNumbered plan.spec) }
+{
+    let spec = parsed(alloc)?;
+    match make_plan(alloc, spec) {
+        Ok(plan) => Some(plan),
+        Err(_fault) => None,
+    }
+}
+
+fn word(alloc: Global, text: &[u8]) -> Result<Value, NoMemory> {
+    Ok(Value::Text(Bytes::from_vec(Vec::from_slice(alloc, text)?)))
+}
+
+fn one_word(alloc: Global, text: &[u8]) -> Result<Row, NoMemory>
+    ensures { IfOk result (λ row. length row ≡ 1) }
+{
+    let mut row = Row::new(alloc);
+    row.push(word(alloc, text)?)?;
+    Ok(row)
+}
+
+fn one_name(alloc: Global, text: &[u8]) -> Result<Names, NoMemory>
+    ensures { IfOk result (λ names. names ≡ text.now ∷ []) }
+{
+    let mut names = Names::new(alloc);
+    names.push(Name::from_vec(Vec::from_slice(alloc, text)?))?;
+    Ok(names)
+}
+
+fn row(alloc: Global, listed: &Listed<'_>) -> Result<Row, NoMemory> {
+    let (texts, age) = listed;
+    let mut row = Row::new(alloc);
+    for text in *texts {
+        row.push(word(alloc, text)?)?;
+    }
+    row.push(Value::Int(*age))?;
+    Ok(row)
+}
+
+fn rows(alloc: Global, listed: &[Listed<'_>]) -> Result<Rows, NoMemory>
+    ensures { IfOk result AreDistinct }
+{
+    let mut rows = Rows::new(alloc);
+    for one in listed {
+        rows.push(row(alloc, one)?)?;
+    }
+    distinct_rows(alloc, rows)
+}
+
+#[tactic(auto, using(crate::proofs::StoredSets::get_or_none))]
+fn sets_at(alloc: Global, plan: &Plan, k: usize) -> Result<ColumnSets, NoMemory>
+    ensures { IfOk result (λ sets. sets ≡ get_or plan.now.indexes k []) }
+{
+    match plan.indexes.get(k) {
+        Some(sets) => sets.copy(alloc),
+        None => Ok(ColumnSets::new(alloc)),
+    }
+}
+
+fn width_at(heads: &Heads, n: usize) -> usize
+    ensures { result ≡ length (attrs_at heads.now n) }
+{
+    match heads.get(n) {
+        Some(head) => head.attrs.len(),
+        None => 0,
+    }
+}
+
+// A table of a width, with sets of columns and rows.
+fn filled(alloc: Global, width: usize, sets: ColumnSets, rows: Rows) -> Result<Table, NoMemory>
+    requires sets { All (IsColumnSet width) sets }
+    requires rows { AreDistinct rows }
+    ensures width { IfOk result (λ table. table.width ≡ width) }
+    ensures sets { IfOk result (λ table. table.indexes ≡ sets) }
+{
+    let Ok(width) = u32::try_from(width) else {
+        return Err(NoMemory);
+    };
+    let mut table = Table::new(alloc, width, sets)?;
+    let change = Delta {
+        deleted: Rows::new(alloc),
+        inserted: rows,
+    };
+    let prepared = table.prepare(alloc, change)?;
+    table.apply(prepared);
+    Ok(table)
+}
+
+// The table of a number behind the relations, with these rows.
+fn table_of(
+    alloc: Global,
+    plan: &Plan,
+    heads: &Heads,
+    k: usize,
+    rows: Rows,
+) -> Result<Table, NoMemory>
+    requires plan { IsPlan plan.now }
+    requires numbered { IsNumbered plan.now.spec }
+    requires heads { heads.now ≡ heads_of plan.now.spec }
+    requires stored { k < length plan.now.spec.views + length plan.now.spec.relations }
+    requires rows { AreDistinct rows }
+    ensures { IfOk result (λ table. IsTrue (fits (attrs_at heads.now (length plan.now.spec.relations + k)) (Some table))) }
+{
+    let width = width_at(heads, plan.spec.relations.len() + k);
+    let sets = sets_at(alloc, plan, k)?;
+    let table = filled(alloc, width, sets, rows)?;
+    Ok(table)
+}
+
+// The tables of the view and of the two complements.
+fn tables_of(alloc: Global, plan: &Plan, heads: &Heads) -> Result<Tables, NoMemory>
+    requires plan { IsPlan plan.now }
+    requires numbered { IsNumbered plan.now.spec }
+    requires heads { heads.now ≡ heads_of plan.now.spec }
+    requires relations { length plan.now.spec.relations ≡ 2 }
+    requires views { length plan.now.spec.views ≡ 1 }
+    ensures count { IfOk result (λ tables. length tables ≡ 3) }
+    ensures fits { IfOk result (FitHeads heads.now) }
+{
+    let sold = table_of(alloc, plan, heads, 0, rows(alloc, SOLD_ROWS)?)?;
+    let emp = table_of(alloc, plan, heads, 1, rows(alloc, EMP_COMPLEMENT)?)?;
+    let sale = table_of(alloc, plan, heads, 2, rows(alloc, &[])?)?;
+    let mut tables = Tables::new(alloc);
+    tables.push(sold)?;
+    tables.push(emp)?;
+    tables.push(sale)?;
+    Ok(tables)
+}
+
+fn columns_of(alloc: Global, heads: &Heads, n: u32) -> Result<Names, NoMemory>
+    ensures { IfOk result (λ names. names ≡ columns_at heads.now n) }
+{
+    match heads.get(n as usize) {
+        Some(head) => names_of(alloc, &head.attrs),
+        None => Ok(Names::new(alloc)),
+    }
+}
+
+// Whether a number has these columns.
+fn has_columns(alloc: Global, heads: &Heads, n: u32, cols: &Names) -> Result<bool, NoMemory>
+    ensures { IfOk result (λ b. b ≡ all_in (columns_at heads.now n) cols.now) }
+{
+    let columns = columns_of(alloc, heads, n)?;
+    Ok(all_in(columns.as_slice(), cols.as_slice()))
+}
+
+// The rows of a number with a text at a column, by the base and by an expression.
+fn rows_with<B: Base, L: Ledger>(
+    alloc: Global,
+    base: &B,
+    n: u32,
+    column: &[u8],
+    text: &[u8],
+    steps: &mut Steps<L>,
+) -> Result<Option<(Rows, Rows)>, NoMemory>
+    requires held { IsTrue (B.has_number base.now n) }
+    requires within { n < length (B.heads_of base.now) }
+{
+    let cols = one_name(alloc, column)?;
+    let vals = one_word(alloc, text)?;
+    if !has_columns(alloc, base.heads(), n, &cols)? {
+        return Ok(None);
+    }
+    let found = base.rows_where(alloc, n, &cols, &vals, steps)?;
+    let bound = eval_where(alloc, &Expr::Base(n), base, &cols, &vals, steps)?;
+    Ok(Some((found, bound)))
+}
+
+// A row of a stored number with a text at a column.
+fn first_with<L: Ledger>(
+    alloc: Global,
+    stored: &Stored<'_>,
+    n: u32,
+    column: &[u8],
+    text: &[u8],
+    steps: &mut Steps<L>,
+) -> Result<Option<Row>, NoMemory>
+    requires { IsTrue (is_stored stored.now.heads.now stored.now.tables.now n) }
+{
+    let cols = one_name(alloc, column)?;
+    let vals = one_word(alloc, text)?;
+    if !has_columns(alloc, stored.heads(), n, &cols)? {
+        return Ok(None);
+    }
+    stored.first_where(alloc, n, &cols, &vals, steps)
+}
+
+// What is found of Mary in the view and among the clerks, and the rows of three clerks by key.
+#[derive(Drop)]
+struct Found {
+    sold: Option<(Rows, Rows)>,
+    first: Option<Row>,
+    emp: Option<(Rows, Rows)>,
+    john: Option<Row>,
+    paula: Option<Row>,
+    zoe: Option<Row>,
+}
+
+fn look_up<L: Ledger>(
+    alloc: Global,
+    plan: &Plan,
+    heads: &Heads,
+    tables: &Tables,
+    steps: &mut Steps<L>,
+) -> Result<Found, NoMemory>
+    requires plan { IsPlan plan.now }
+    requires rules { WellFormed plan.now.spec }
+    requires keys { IsTrue (have_keys plan.now.spec) }
+    requires numbered { IsNumbered plan.now.spec }
+    requires heads { heads.now ≡ heads_of plan.now.spec }
+    requires relations { length plan.now.spec.relations ≡ 2 }
+    requires views { length plan.now.spec.views ≡ 1 }
+    requires count { length tables.now ≡ 3 }
+    requires fits { FitHeads heads.now tables.now }
+{
+    let stored = Stored::new(heads, tables);
+    let inverse = Inverse::new(plan, &stored);
+    Ok(Found {
+        sold: rows_with(alloc, &stored, SOLD, b"clerk", b"Mary", steps)?,
+        first: first_with(alloc, &stored, SOLD, b"clerk", b"John", steps)?,
+        emp: rows_with(alloc, &inverse, EMP, b"clerk", b"Mary", steps)?,
+        john: inverse.by_key(alloc, EMP, &one_word(alloc, b"John")?, steps)?,
+        paula: inverse.by_key(alloc, EMP, &one_word(alloc, b"Paula")?, steps)?,
+        zoe: inverse.by_key(alloc, EMP, &one_word(alloc, b"Zoe")?, steps)?,
+    })
+}
+
+fn looked_up<L: Ledger>(alloc: Global, steps: &mut Steps<L>) -> Result<Option<Found>, NoMemory> {
+    let Some(plan) = planned(alloc) else {
+        return Ok(None);
+    };
+    let spec = &plan.spec;
+    if spec.relations.len() != 2 || spec.views.len() != 1 || !have_keys(spec) {
+        return Ok(None);
+    }
+    let heads = heads(alloc, spec)?;
+    let tables = tables_of(alloc, &plan, &heads)?;
+    Ok(Some(look_up(alloc, &plan, &heads, &tables, steps)?))
+}
+
+#[test]
+fn rows_are_looked_up(rt: HostRuntime) -> Result<(), Fail> {
+    let alloc = rt.alloc();
+    let mut steps = Steps::new(&rt, CountLedger::new());
+    let made = looked_up(alloc, &mut steps)?;
+    assert!(rt; made.is_some());
+    if let Some(found) = made {
+        let mary = rows(alloc, &SOLD_ROWS[1..])?;
+        assert!(rt;
+            found
+                .sold
+                .is_some_and(|(at, bound)| at == mary && bound == mary)
+        );
+        let first = row(alloc, &SOLD_ROWS[0])?;
+        assert!(rt; found.first.is_some_and(|r| r == first));
+        let mary = rows(alloc, &[(&[b"Mary"], 23)])?;
+        assert!(rt;
+            found
+                .emp
+                .is_some_and(|(at, bound)| at == mary && bound == mary)
+        );
+        let john = row(alloc, &(&[b"John"], 25))?;
+        assert!(rt; found.john.is_some_and(|r| r == john));
+        let paula = row(alloc, &EMP_COMPLEMENT[0])?;
+        assert!(rt; found.paula.is_some_and(|r| r == paula));
+        assert!(rt; found.zoe.is_none());
+    }
+    assert_eq!(rt; steps.ledger().scans, 0);
+    Ok(())
+}
