@@ -134,6 +134,18 @@ fn a_loaded_store_answers(rt: HostRuntime) -> Result<(), Fail> {
             &["query", "project (age, item) Sold"],
             "age,item\n23,TV\n23,VCR\n25,PC\n",
         ),
+        printed(
+            &["query", "project (clerk) Sale union project (clerk) Emp"],
+            "clerk\nJohn\nMary\nPaula\n",
+        ),
+        printed(
+            &["query", "rename (clerk to age, age to clerk) Emp"],
+            "age,clerk\nJohn,25\nMary,23\nPaula,32\n",
+        ),
+        printed(
+            &["query", "Emp minus project (age, clerk) Sold"],
+            "clerk,age\nPaula,32\n",
+        ),
         told(
             &["query", "select (age = 'x') Emp"],
             Status::BadInput,
