@@ -3,6 +3,7 @@ pub mod BelowLemmas
 pub mod Beside
 pub mod CoverLemmas
 pub mod FilledLemmas
+pub mod FirstByKey
 pub mod FoundLemmas
 pub mod GivenLemmas
 pub mod PieceLemmas

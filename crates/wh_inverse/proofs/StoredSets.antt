@@ -1,7 +1,7 @@
 -- The indexed sets of the stored tables, by the columns of their numbers.
-use Rattle.std.proofs.Common.{◌≡◌, ◌⊎◌, inl, inr, ⊎_elim, ℕ, zero, suc, ◌+◌, ◌-◌, ◌<◌, ◌≤◌, Bool, true, false, nat_le, nat_lt, take, List, [], ◌∷◌, ◌++◌, map, length, length-append, get_or, Some, None, unwrap_or, refl, sym, ap, subst, ◌∙◌, arith}
+use Rattle.std.proofs.Common.{◌≡◌, ⊎_elim, ℕ, zero, suc, ◌+◌, ◌-◌, ◌<◌, ◌≤◌, true, false, List, [], ◌∷◌, ◌++◌, map, length, length-append, get_or, Some, None, unwrap_or, refl, sym, ap, subst, ◌∙◌, arith}
 use Rattle.std.specs.Prelude.{All, slice_get}
-use Rattle.std.specs.List.{IsDistinct, list_all, list_any}
+use Rattle.std.specs.List.{list_all, list_any}
 use Rattle.std.proofs.lemmas.Bool.{cases_lt}
 use Rattle.std.proofs.lemmas.Bool.Decides.{nat_tests}
 use Rattle.std.proofs.lemmas.Map.Keys.{IsDistinct-from_apart}
@@ -23,8 +23,9 @@ use Rattle.wh_schema.specs.declared.spec.Relation.{Relation}
 use Rattle.wh_schema.specs.declared.spec.Spec.{Spec}
 use Rattle.wh_schema.specs.declared.spec.View.{View}
 use Rattle.wh_schema.specs.Heads.{heads_of, relation_head, view_head, complement_head}
-use Rattle.wh_schema.specs.Warehouse.{Row, columns_of, relation_at, view_at, no_relation, no_view}
+use Rattle.wh_schema.specs.Warehouse.{Row, columns_of, view_at, no_relation, no_view}
 use Rattle.wh_table.specs.Table.{CanApply, IndexedRows, IsColumnSet, IsIndexed}
+use Rattle.wh_inverse.specs.Inverse.{HaveIndexes}
 use Rattle.wh_inverse.proofs.BelowLemmas.{view-columns, complement-columns}
 
 pub get_or_none : {X : Type 0} (xs : List X) (i : ℕ) (d : X) → slice_get xs i ≡ None → get_or xs i d ≡ d
@@ -98,6 +99,19 @@ three_fit heads n a b c first x y z zero = ap (λ m. fits (attrs_at heads (m + 0
 three_fit heads n a b c first x y z (suc zero) = ap (λ m. fits (attrs_at heads (m + 1)) (Some b)) first ∙ y
 three_fit heads n a b c first x y z (suc (suc zero)) = ap (λ m. fits (attrs_at heads (m + 2)) (Some c)) first ∙ z
 three_fit heads n a b c first x y z (suc (suc (suc k))) = refl
+
+pub three_indexed : (spec : Spec) (heads : List Head) (a b c : IndexedRows) → length spec.relations ≡ 2 → length spec.views ≡ 1 → first_stored heads (a ∷ b ∷ c ∷ []) ≡ length spec.relations
+    → a.indexes ≡ get_or (indexes spec) 0 [] → b.indexes ≡ get_or (indexes spec) 1 [] → c.indexes ≡ get_or (indexes spec) 2 [] → HaveIndexes spec heads (a ∷ b ∷ c ∷ [])
+three_indexed spec heads a b c relations views first x y z k l = back k ∙ by k l
+  where
+    back : (k : ℕ) → indexes_in (slice_get (a ∷ b ∷ c ∷ []) (length spec.relations + k - first_stored heads (a ∷ b ∷ c ∷ []))) ≡ indexes_in (slice_get (a ∷ b ∷ c ∷ []) k)
+    back k = let is : length spec.relations + k - first_stored heads (a ∷ b ∷ c ∷ []) ≡ k = omega (arith, first) in ap (λ n. indexes_in (slice_get (a ∷ b ∷ c ∷ []) n)) is
+
+    by : (k : ℕ) → k < length spec.views + length spec.relations → indexes_in (slice_get (a ∷ b ∷ c ∷ []) k) ≡ get_or (indexes spec) k []
+    by zero l = x
+    by (suc zero) l = y
+    by (suc (suc zero)) l = z
+    by (suc (suc (suc k))) l = absurd (omega (arith, l, relations, views))
 
 -- ---- rows put into an empty table
 

@@ -3,11 +3,14 @@ use Rattle.std.specs.Prelude.{◌≡◌, ℕ, ◌+◌, ◌-◌, ◌<◌, ◌≤�
 use Rattle.std.specs.List.{list_all}
 use Rattle.wh_base.specs.declared.head.Head.{Head}
 use Rattle.wh_covers.specs.Covers.{IsNumbered}
+use Rattle.wh_eval.specs.Stored.{stored_indexes}
+use Rattle.wh_plan.specs.Indexes.{indexes}
 use Rattle.wh_schema.specs.declared.spec.Spec.{Spec}
 use Rattle.wh_schema.specs.Heads.{heads_of}
 use Rattle.wh_schema.specs.Legality.{WellFormed}
 use Rattle.wh_schema.specs.Reconstruction.{given, reconstructed}
 use Rattle.wh_schema.specs.Warehouse.{Row, Sources, numbers}
+use Rattle.wh_table.specs.Table.{IndexedRows}
 
 -- each relation has a column in its key
 abbrev pub have_keys : Spec → Bool
@@ -38,3 +41,7 @@ inverse_rows spec rows n =
 -- relations and views have numbers
 abbrev pub is_source : Spec → ℕ → Bool
 is_source spec n = nat_lt n (length spec.relations + length spec.views)
+
+-- each table that is stored has the indexed sets that the plan has for it
+abbrev pub HaveIndexes : Spec → List Head → List IndexedRows → Type 0
+HaveIndexes spec heads tables = (k : ℕ) → k < length spec.views + length spec.relations → stored_indexes heads tables (length spec.relations + k) ≡ get_or (indexes spec) k []

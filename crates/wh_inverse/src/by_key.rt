@@ -1,8 +1,9 @@
 //! The row of a relation with a key.
-ghost use Rattle.std.specs.Prelude.{◌≡◌, ◌≤◌, ◌<◌, [], length, get_or, slice_get, IfOk};
-ghost use Rattle.wh_base.specs.RowSet.{SameRows};
+ghost use Rattle.std.specs.Prelude.{◌≡◌, ◌≤◌, ◌<◌, [], length, get_or, slice_get, IfOk, IfSome, IsTrue};
+ghost use Rattle.wh_base.specs.RowSet.{SameRows, has};
 ghost use Rattle.wh_base.specs.Tables.{matching};
-ghost use Rattle.wh_inverse.specs.Inverse.{stored_below};
+ghost use Rattle.wh_eval.specs.Stored.{stored_rows};
+ghost use Rattle.wh_inverse.specs.Inverse.{HaveIndexes, stored_below};
 ghost use Rattle.wh_inverse.specs.Laws.{IsOneOf, IsRowWithKey};
 ghost use Rattle.wh_laws.specs.Laws.{LegalState};
 ghost use Rattle.wh_schema.specs.Reconstruction.{reconstructed, SameTables};
@@ -10,11 +11,13 @@ ghost use Rattle.wh_schema.specs.Warehouse.{State, columns_of, key_of, stored};
 
 use crate::inverse::Inverse;
 use crate::parts::{cut, narrow};
+use crate::planned::complement_number;
 use crate::walk::found_at;
 use std::alloc::Global;
 use wh_base::{NoMemory, Row, Rows, names_of, shared};
 use wh_covers::relation_at;
-use wh_eval::Base;
+use wh_eval::{Base, Stored};
+use wh_expr::are_distinct;
 use wh_steps::{Ledger, Steps};
 
 fn first_of(rows: Rows) -> Option<Row>
@@ -45,8 +48,34 @@ fn rows_with_key<B: Base, L: Ledger>(
     Ok(narrow(alloc, found, &relation.key, key)?.rows)
 }
 
-impl<'a, B: Base> Inverse<'a, B> {
+/// A row of the complement of a relation with these values at the key, if one probe finds it.
+fn first_in_complement<L: Ledger>(
+    alloc: Global,
+    inverse: &Inverse<'_, Stored<'_>>,
+    rel: u32,
+    key: &Row,
+    steps: &mut Steps<L>,
+) -> Result<Option<Row>, NoMemory>
+    requires relation { rel < length inverse.now.plan.now.spec.relations }
+    requires indexed { HaveIndexes inverse.now.plan.now.spec inverse.now.below.now.heads.now inverse.now.below.now.tables.now }
+    ensures row { IfOk result (λ found. IfSome found (λ row. IsTrue (has (matching (columns_of inverse.now.plan.now.spec rel) (key_of inverse.now.plan.now.spec rel) key.now (get_or (reconstructed inverse.now.plan.now.spec (stored_below inverse.now.plan.now.spec (stored_rows inverse.now.below.now.heads.now inverse.now.below.now.tables.now))) rel [])) row))) }
+    ensures probes { steps.old.probes ≤ steps.new.probes }
+    ensures scans { steps.new.scans ≡ steps.old.scans }
+{
+    let relation = relation_at(&inverse.plan.spec, rel);
+    // A key that names a column twice has no index.
+    if key.len() != relation.key.len() || !are_distinct(relation.key.as_slice()) {
+        return Ok(None);
+    }
+    let number = complement_number(&inverse.plan.spec, rel);
+    inverse
+        .below
+        .first_where(alloc, number, &relation.key, key, steps)
+}
+
+impl<'a, 's> Inverse<'a, Stored<'s>> {
     /// The row of a relation with these values at its key, or None exactly where it has no such row. No table is read as a whole.
+    /// A row of the complement costs one probe.
     pub fn by_key<L: Ledger>(
         &self,
         alloc: Global,
@@ -54,13 +83,19 @@ impl<'a, B: Base> Inverse<'a, B> {
         key: &Row,
         steps: &mut Steps<L>,
     ) -> Result<Option<Row>, NoMemory>
-        requires { rel < length self.now.plan.now.spec.relations }
-        ensures row { IfOk result (λ row. IsOneOf row (matching (columns_of self.now.plan.now.spec rel) (key_of self.now.plan.now.spec rel) key.now (get_or (reconstructed self.now.plan.now.spec (stored_below self.now.plan.now.spec (B.rows_at self.now.below.now))) rel []))) }
-        ensures legal { (s : State) → LegalState self.now.plan.now.spec s → SameTables (stored_below self.now.plan.now.spec (B.rows_at self.now.below.now)) (stored self.now.plan.now.spec s)
+        requires relation { rel < length self.now.plan.now.spec.relations }
+        requires indexed { HaveIndexes self.now.plan.now.spec self.now.below.now.heads.now self.now.below.now.tables.now }
+        ensures row { IfOk result (λ row. IsOneOf row (matching (columns_of self.now.plan.now.spec rel) (key_of self.now.plan.now.spec rel) key.now (get_or (reconstructed self.now.plan.now.spec (stored_below self.now.plan.now.spec (stored_rows self.now.below.now.heads.now self.now.below.now.tables.now))) rel []))) }
+        ensures legal { (s : State) → LegalState self.now.plan.now.spec s → SameTables (stored_below self.now.plan.now.spec (stored_rows self.now.below.now.heads.now self.now.below.now.tables.now)) (stored self.now.plan.now.spec s)
             → IfOk result (IsRowWithKey self.now.plan.now.spec s rel key.now) }
         ensures probes { steps.old.probes ≤ steps.new.probes }
         ensures scans { steps.new.scans ≡ steps.old.scans }
     {
-        Ok(first_of(rows_with_key(alloc, self, rel, key, steps)?))
+        let first = first_in_complement(alloc, self, rel, key, steps)?;
+        if let Some(row) = first {
+            return Ok(Some(row));
+        }
+        let rows = rows_with_key(alloc, self, rel, key, steps)?;
+        Ok(first_of(rows))
     }
 }

@@ -5,7 +5,8 @@ ghost use Rattle.wh_base.specs.Heads.{attrs_at, columns_at};
 ghost use Rattle.wh_base.specs.RowSet.{AreDistinct};
 ghost use Rattle.wh_covers.specs.Covers.{IsNumbered};
 ghost use Rattle.wh_eval.specs.Stored.{FitHeads, fits, is_stored};
-ghost use Rattle.wh_inverse.specs.Inverse.{have_keys};
+ghost use Rattle.wh_inverse.specs.Inverse.{HaveIndexes, have_keys};
+ghost use Rattle.wh_plan.specs.Indexes.{indexes};
 ghost use Rattle.wh_plan.specs.Plan.{IsPlan};
 ghost use Rattle.wh_schema.specs.Heads.{heads_of};
 ghost use Rattle.wh_schema.specs.Legality.{WellFormed};
@@ -162,7 +163,8 @@ fn table_of(
     requires heads { heads.now ≡ heads_of plan.now.spec }
     requires stored { k < length plan.now.spec.views + length plan.now.spec.relations }
     requires rows { AreDistinct rows }
-    ensures { IfOk result (λ table. IsTrue (fits (attrs_at heads.now (length plan.now.spec.relations + k)) (Some table))) }
+    ensures fits { IfOk result (λ table. IsTrue (fits (attrs_at heads.now (length plan.now.spec.relations + k)) (Some table))) }
+    ensures sets { IfOk result (λ table. table.indexes ≡ get_or (indexes plan.now.spec) k []) }
 {
     let width = width_at(heads, plan.spec.relations.len() + k);
     let sets = sets_at(alloc, plan, k)?;
@@ -179,6 +181,7 @@ fn tables_of(alloc: Global, plan: &Plan, heads: &Heads) -> Result<Tables, NoMemo
     requires views { length plan.now.spec.views ≡ 1 }
     ensures count { IfOk result (λ tables. length tables ≡ 3) }
     ensures fits { IfOk result (FitHeads heads.now) }
+    ensures indexed { IfOk result (HaveIndexes plan.now.spec heads.now) }
 {
     let sold = table_of(alloc, plan, heads, 0, rows(alloc, SOLD_ROWS)?)?;
     let emp = table_of(alloc, plan, heads, 1, rows(alloc, EMP_COMPLEMENT)?)?;
@@ -275,6 +278,7 @@ fn look_up<L: Ledger>(
     requires views { length plan.now.spec.views ≡ 1 }
     requires count { length tables.now ≡ 3 }
     requires fits { FitHeads heads.now tables.now }
+    requires indexed { HaveIndexes plan.now.spec heads.now tables.now }
 {
     let stored = Stored::new(heads, tables);
     let inverse = Inverse::new(plan, &stored);
