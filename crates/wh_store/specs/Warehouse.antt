@@ -1,6 +1,8 @@
 -- A warehouse in memory, and the place in the files that it stands at.
-use Rattle.std.specs.Prelude.{◌≡◌, ℕ, ◌+◌, ◌<◌, Bool, true, List, [], ◌∷◌, length, get_or, Option, None, Some, Ok}
+use Rattle.std.specs.Prelude.{◌≡◌, ℕ, ◌+◌, ◌<◌, ◌≤◌, Bool, true, List, [], ◌∷◌, length, get_or, Option, None, Some, Ok}
+use Rattle.std.specs.List.{AllByRecursion}
 use Rattle.wh_base.specs.RowSet.{SameRows}
+use Rattle.wh_codec.specs.Body.{IsSpelledValue}
 use Rattle.wh_laws.specs.Laws.{LegalState}
 use Rattle.wh_plan.specs.Plan.{IsPlan}
 use Rattle.wh_schema.specs.declared.spec.Spec.{Spec}
@@ -10,7 +12,7 @@ use Rattle.wh_store.specs.declared.warehouse.Place.{Place}
 use Rattle.wh_store.specs.declared.warehouse.Warehouse.{Warehouse}
 use Rattle.wh_store.specs.declared.warehouse.Which.{Which}
 use Rattle.wh_store.specs.declared.warehouse.Which.TheVariants.{First, Second}
-use Rattle.wh_store.specs.Image.{Image, Active, holding, stored_count, stored_attrs}
+use Rattle.wh_store.specs.Image.{Image, Active, holding, stored_count, stored_attrs, fits_stored, row_limit}
 use Rattle.wh_table.specs.Table.{IndexedRows}
 
 abbrev pub no_table : IndexedRows
@@ -26,6 +28,12 @@ pub record IsInForm (w : Warehouse) : Type 0 where
   pub count : length w.tables ≡ stored_count w.plan.spec
   pub widths : (k : ℕ) → k < stored_count w.plan.spec → (table_at w.tables k).width ≡ length (stored_attrs w.plan.spec k)
   pub indexes : (k : ℕ) → k < stored_count w.plan.spec → (table_at w.tables k).indexes ≡ get_or w.plan.indexes k []
+
+-- Each row of a table has the kinds of the table's attributes, each value has a spelling, and no table has more than 4,000,000 rows.
+pub record HoldsValues (w : Warehouse) : Type 0 where
+  pub fits : (k : ℕ) → k < stored_count w.plan.spec → fits_stored w.plan.spec k (table_at w.tables k).rows ≡ true
+  pub spelled : (k : ℕ) → k < stored_count w.plan.spec → AllByRecursion (AllByRecursion IsSpelledValue) (table_at w.tables k).rows
+  pub under : (k : ℕ) → k < stored_count w.plan.spec → length (table_at w.tables k).rows ≤ row_limit
 
 -- the tables have these rows
 abbrev pub HasRows : Spec → List (List Row) → Warehouse → Type 0

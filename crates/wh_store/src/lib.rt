@@ -20,7 +20,7 @@ pub use emptiness::both_empty;
 pub use fault::StoreFault;
 pub use opening::open_store;
 pub use ready::Ready;
-pub use warehouse::{Place, Warehouse, Which};
+pub use warehouse::{NetChange, Place, Warehouse, Which};
 
 #[cfg(test)]
 mod commit_tests;

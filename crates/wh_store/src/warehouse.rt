@@ -10,7 +10,9 @@ ghost use Rattle.wh_table.specs.Table.{IsColumnSet};
 
 use crate::tables::attrs_at;
 use std::alloc::Global;
-use wh_base::{ColumnSets, Delta, Duplicate, Head, NoMemory, Rows, StoredRows};
+use wh_base::{
+    ColumnSets, Delta, Duplicate, Head, NoMemory, Rows, SourceDeltas, StoredDeltas, StoredRows,
+};
 use wh_journal::Journal;
 use wh_plan::Plan;
 use wh_table::{Table, Tables};
@@ -38,6 +40,13 @@ pub struct Place {
     pub journal: Journal,
     /// Whether it may be written at. A disk fault ends that: the store is then opened again.
     pub live: bool,
+}
+
+/// What a change made of the sources, one delta for each relation, and of the stored tables, one for each.
+#[derive(Debug, Drop)]
+pub struct NetChange {
+    pub source: SourceDeltas,
+    pub stored: StoredDeltas,
 }
 
 // The indexed sets of a stored table.

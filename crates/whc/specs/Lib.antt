@@ -8,6 +8,7 @@ pub mod Laws
 pub mod Load
 pub mod Outcome
 pub mod Plan
+pub mod Refresh
 pub mod Run
 pub mod Show
 pub mod Steps

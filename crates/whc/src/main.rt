@@ -7,6 +7,7 @@ mod inputs;
 mod laws;
 mod load;
 mod plan;
+mod refresh;
 mod run;
 mod show;
 mod status;
