@@ -31,7 +31,7 @@ use Rattle.wh_laws.proofs.Lists.{filter_from, map_from}
 use Rattle.wh_fit.specs.Differences.{IsStorable}
 use Rattle.wh_fit.specs.Fit.{AreSpelledRows}
 use Rattle.wh_fit.specs.Held.{AreBytes, IsFittingImage}
-use Rattle.wh_fit.proofs.Each.{each_from, each_in}
+use Rattle.wh_fit.proofs.Each.{each_at, each_from, each_in}
 use Rattle.wh_fit.proofs.Sources.{sources_fit, sources_spelled}
 use Rattle.wh_fit.proofs.TextSpecs.{found}
 
@@ -42,11 +42,6 @@ Values = AllByRecursion IsSpelledValue
 
 rows_of_table : (rows : List Row) → IsSpelledTable rows → AreSpelledRows rows
 rows_of_table rows is = each_in Values rows (λ x k. (each_from IsSpelledRow rows is.rows x k).values)
-
-rows_at : (tables : List (List Row)) → AllByRecursion AreSpelledRows tables → (k : ℕ) → AreSpelledRows (get_or tables k [])
-rows_at [] h k = tt
-rows_at (rows ∷ tables) h zero = h.0
-rows_at (rows ∷ tables) h (suc k) = rows_at tables h.1 k
 
 inserted_at : (deltas : List Delta) → AllByRecursion IsSpelledDelta deltas → (k : ℕ) → AreSpelledRows (get_or deltas k no_delta).inserted
 inserted_at [] h k = tt
@@ -66,7 +61,7 @@ changed_spelled tables deltas old new =
     let at : ℕ → List Row = λ k. changed_table (get_or tables k []) (get_or deltas k no_delta) in
     each_in AreSpelledRows (changed_tables tables deltas) (λ rows h.
     let k = map_from at (numbers (length tables)) rows h in
-    subst AreSpelledRows k.2 (changed_rows (get_or tables k.0 []) (get_or deltas k.0 no_delta) (rows_at tables old k.0) (inserted_at deltas new k.0)))
+    subst AreSpelledRows k.2 (changed_rows (get_or tables k.0 []) (get_or deltas k.0 no_delta) (each_at AreSpelledRows [] tt tables old k.0) (inserted_at deltas new k.0)))
 
 -- ---- bytes
 
