@@ -6,9 +6,9 @@ use Rattle.std.proofs.lemmas.Bool.{and_parts}
 use Rattle.std.proofs.lemmas.List.Elements.{All-from_recursion, recursion_from_All, All-take, All-drop, Contains-append_cases}
 use Rattle.std.specs.Str.{bytes_eq}
 use Rattle.wh_base.specs.declared.value.Delta.{Delta}
-use Rattle.wh_base.specs.RowSet.{has}
+use Rattle.wh_base.specs.RowSet.{IsAscending, has}
 use Rattle.wh_base.specs.Tables.{without}
-use Rattle.wh_base.proofs.InOrder.{Contains-from_in_order}
+use Rattle.wh_base.proofs.InOrder.{Contains-from_in_order, IsAscending-in_order}
 use Rattle.wh_codec.specs.declared.frame.Frame.{Frame}
 use Rattle.wh_codec.specs.declared.frame.Frame.TheVariants.{Snapshot, Change}
 use Rattle.wh_codec.specs.Body.{IsSpelled, IsSpelledDelta, IsSpelledRow, IsSpelledTable, IsSpelledValue}
@@ -31,7 +31,7 @@ use Rattle.wh_laws.proofs.Lists.{filter_from, map_from}
 use Rattle.wh_fit.specs.Differences.{IsStorable}
 use Rattle.wh_fit.specs.Fit.{AreSpelledRows}
 use Rattle.wh_fit.specs.Held.{AreBytes, IsFittingImage}
-use Rattle.wh_fit.proofs.Each.{each_from, each_in}
+use Rattle.wh_fit.proofs.Each.{each_at, each_from, each_in}
 use Rattle.wh_fit.proofs.Sources.{sources_fit, sources_spelled}
 use Rattle.wh_fit.proofs.TextSpecs.{found}
 
@@ -42,11 +42,6 @@ Values = AllByRecursion IsSpelledValue
 
 rows_of_table : (rows : List Row) → IsSpelledTable rows → AreSpelledRows rows
 rows_of_table rows is = each_in Values rows (λ x k. (each_from IsSpelledRow rows is.rows x k).values)
-
-rows_at : (tables : List (List Row)) → AllByRecursion AreSpelledRows tables → (k : ℕ) → AreSpelledRows (get_or tables k [])
-rows_at [] h k = tt
-rows_at (rows ∷ tables) h zero = h.0
-rows_at (rows ∷ tables) h (suc k) = rows_at tables h.1 k
 
 inserted_at : (deltas : List Delta) → AllByRecursion IsSpelledDelta deltas → (k : ℕ) → AreSpelledRows (get_or deltas k no_delta).inserted
 inserted_at [] h k = tt
@@ -66,7 +61,15 @@ changed_spelled tables deltas old new =
     let at : ℕ → List Row = λ k. changed_table (get_or tables k []) (get_or deltas k no_delta) in
     each_in AreSpelledRows (changed_tables tables deltas) (λ rows h.
     let k = map_from at (numbers (length tables)) rows h in
-    subst AreSpelledRows k.2 (changed_rows (get_or tables k.0 []) (get_or deltas k.0 no_delta) (rows_at tables old k.0) (inserted_at deltas new k.0)))
+    subst AreSpelledRows k.2 (changed_rows (get_or tables k.0 []) (get_or deltas k.0 no_delta) (each_at AreSpelledRows [] tt tables old k.0) (inserted_at deltas new k.0)))
+
+changed_ascend : (tables : List (List Row)) (deltas : List Delta) → AllByRecursion IsAscending (changed_tables tables deltas)
+changed_ascend tables deltas =
+    let at : ℕ → List Row = λ k. changed_table (get_or tables k []) (get_or deltas k no_delta) in
+    each_in IsAscending (changed_tables tables deltas) (λ rows h.
+    let k = map_from at (numbers (length tables)) rows h in
+    let d = get_or deltas k.0 no_delta in
+    subst IsAscending k.2 (IsAscending-in_order (without (get_or tables k.0 []) d.deleted ++ d.inserted)))
 
 -- ---- bytes
 
@@ -143,7 +146,13 @@ snapshot_fits generation seq tables end text (Some spec) i is h e =
     let made : Image = record { generation = generation; seq = seq; spec = spec; tables = tables; end = end } in
     let w = when_some (are_stored_tables spec tables) made i e in
     let p = stored_parts spec tables w.0 in
-    let fits : IsFittingImage made = record { textual = printed_textual text spec is; fits = p.0; under = p.1; spelled = tables_spelled tables h } in
+    let fits : IsFittingImage made = record {
+      textual = printed_textual text spec is;
+      fits = p.0;
+      ascending = each_in IsAscending tables (λ rows k. (each_from IsSpelledTable tables h rows k).ascending);
+      under = p.1;
+      spelled = tables_spelled tables h;
+    } in
     subst IsFittingImage w.1 fits
 
 first_fits : (end : ℕ) (o : Option Frame) (i : Image) → ((frame : Frame) → o ≡ Some frame → IsSpelled frame) → after_first end o ≡ Some i → IsFittingImage i
@@ -163,7 +172,13 @@ next_fits i end (Some (Change seq deltas)) j fits h e =
     let q = and_parts (apply_to i.tables deltas) (are_stored_tables i.spec tables) p.1 in
     let t = stored_parts i.spec tables q.1 in
     let deltas_spelled = (h (Change seq deltas) refl).deltas in
-    let fit : IsFittingImage made = record { textual = fits.textual; fits = t.0; under = t.1; spelled = changed_spelled i.tables deltas fits.spelled deltas_spelled } in
+    let fit : IsFittingImage made = record {
+      textual = fits.textual;
+      fits = t.0;
+      ascending = changed_ascend i.tables deltas;
+      under = t.1;
+      spelled = changed_spelled i.tables deltas fits.spelled deltas_spelled;
+    } in
     subst IsFittingImage w.1 fit
 
 step_on : (more : Image → Result Image ℕ) (at : ℕ) (o : Option Image) (j : Image) → replayed_on more at o ≡ Ok j → (i : Image) × (o ≡ Some i) × (more i ≡ Ok j)
