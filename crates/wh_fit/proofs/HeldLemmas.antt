@@ -29,6 +29,7 @@ use Rattle.wh_store.proofs.SpelledTables.{changed_spelled, tables_spelled}
 use Rattle.wh_fit.specs.Differences.{IsStorable}
 use Rattle.wh_fit.specs.Fit.{AreSpelledRows}
 use Rattle.wh_fit.specs.Held.{AreBytes, IsFittingImage}
+use Rattle.wh_fit.proofs.Each.{each_from, each_in}
 use Rattle.wh_fit.proofs.Sources.{sources_fit, sources_spelled}
 use Rattle.wh_fit.proofs.TextSpecs.{found}
 
