@@ -1,0 +1,1 @@
+-- The sources that the tables of a warehouse give back.
