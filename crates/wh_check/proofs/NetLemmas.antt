@@ -1,15 +1,19 @@
 -- The net effect of lines.
-use Rattle.std.proofs.Common.{◌≡◌, ℕ, ◌+◌, ◌<◌, ◌==◌, Bool, true, false, not, ◌&&◌, if◌then◌else◌, nat_eq, List, [], ◌∷◌, ◌++◌, map, fold, take, length, get_or, set, replicate, Contains, refl, sym, ap, subst, ◌∙◌, inl, inr, arith}
+use Rattle.std.proofs.Common.{◌≡◌, ℕ, ◌+◌, ◌<◌, ◌≤◌, ◌==◌, Bool, true, false, not, ◌&&◌, if◌then◌else◌, nat_eq, List, [], ◌∷◌, ◌++◌, map, fold, take, length, get_or, set, replicate, Contains, refl, sym, ap, subst, ◌∙◌, inl, inr, arith}
 use Rattle.std.specs.List.{list_all}
 use Rattle.std.proofs.lemmas.Bool.{and_from, eq-eqb}
-use Rattle.std.proofs.lemmas.List.{length-replicate, length-set}
+use Rattle.std.proofs.lemmas.List.{length-replicate, length-set, take_all}
 use Rattle.std.proofs.lemmas.List.Elements.{Contains-append_cases, Contains-append_left, Contains-append_right}
 use Rattle.wh_base.specs.declared.value.Delta.{Delta}
 use Rattle.wh_base.specs.RowSet.{SameRows, has, in_order}
 use Rattle.wh_base.specs.Tables.{without}
 use Rattle.wh_base.specs.Value.{row_eq}
+use Rattle.wh_base.specs.ValueLaws.{row_eq_equiv}
 use Rattle.wh_base.proofs.InOrder.{SameRows-from, SameRows-in_order, in_order-same}
 use Rattle.wh_base.proofs.RowSets.{SameRows-filter}
+use Rattle.wh_csv.specs.declared.change.Line as csv
+use Rattle.wh_fit.specs.Fit.{as_line}
+use Rattle.wh_inverse.proofs.FilledLemmas.{fold-more}
 use Rattle.wh_fit.specs.Differences.{difference, differences}
 use Rattle.wh_fit.proofs.DifferenceLemmas.{difference_applies, lost_from, lost_in}
 use Rattle.wh_laws.proofs.Equality.{has_decides, is_not, is_not_in, row_is_in}
@@ -62,6 +66,43 @@ without_same xs ys us vs a b =
 
 pub difference_same : (xs ys us vs : List Row) → SameRows xs us → SameRows ys vs → difference xs ys ≡ difference us vs
 difference_same xs ys us vs a b = λ i. record { deleted = without_same xs ys us vs a b i; inserted = without_same ys xs vs us b a i }
+
+-- the delta of a relation that lines make
+abbrev pub delta_at : State → List Line → ℕ → Delta
+delta_at s lines k = difference (get_or s k []) (get_or (apply s lines) k [])
+
+pub differences_length : (s t : State) → length (differences s t) ≡ length s
+differences_length s t = length_numbers_map (λ k. difference (get_or s k []) (get_or t k [])) (length s)
+
+pub delta_is : (rows after xs ys deleted inserted : List Row) → deleted ≡ in_order (without rows after) → inserted ≡ in_order (without after rows) → SameRows rows xs → SameRows after ys
+    → record { deleted = deleted; inserted = inserted } ≡ difference xs ys
+delta_is rows after xs ys deleted inserted gone come old new = (λ i. record { deleted = gone i; inserted = come i }) ∙ difference_same rows after xs ys old new
+
+-- ---- the same by the lines of a file
+
+abbrev pub said : ℕ → Row → Bool → csv.Line → Bool
+said i x b line = told i x b (as_line line)
+
+pub line_told : (i : ℕ) (q : Row) (line : csv.Line) (rows : List Row) (lines : List csv.Line) (k : ℕ) (old new : Bool) → k < length lines → line ≡ get_or lines k line
+    → old ≡ fold (said i q) (has rows q) (take k lines) → new ≡ (if nat_eq i line.relation && row_eq line.row q then line.insert else old)
+    → new ≡ fold (said i q) (has rows q) (take (k + 1) lines)
+line_told i q line rows lines k old new l is before here =
+    here ∙ ap (λ b. if nat_eq i line.relation && b then line.insert else old) (row_eq_equiv.symm line.row q)
+    ∙ ap (λ b. said i q b line) before
+    ∙ ap (said i q (fold (said i q) (has rows q) (take k lines))) is
+    ∙ sym (fold-more (said i q) (has rows q) lines k line l)
+
+fold_mapped : {X Y B : Type 0} (f : B → Y → B) (g : X → Y) (b : B) (xs : List X) → fold f b (map g xs) ≡ fold (λ c x. f c (g x)) b xs
+fold_mapped f g b [] = refl
+fold_mapped f g b (x ∷ xs) = fold_mapped f g (f b (g x)) xs
+
+pub lines_told : (i : ℕ) (q : Row) (rows : List Row) (lines : List csv.Line) (k : ℕ) (s : State) → length lines ≤ k → i < length s → SameRows rows (get_or s i [])
+    → fold (said i q) (has rows q) (take k lines) ≡ has (get_or (apply s (map as_line lines)) i []) q
+lines_told i q rows lines k s all l same =
+    ap (fold (said i q) (has rows q)) (take_all k lines all)
+    ∙ sym (fold_mapped (told i q) as_line (has rows q) lines)
+    ∙ ap (λ b. fold (told i q) b (map as_line lines)) (same q)
+    ∙ sym (has_applied (map as_line lines) s i l q)
 
 -- ---- the net effect leads there
 

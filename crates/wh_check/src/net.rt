@@ -93,12 +93,10 @@ fn delta_of(
     ensures { IfOk result (λ d. (s : SourceState) → relation < length s → SameRows rows.now (get_or s relation []) → d ≡ difference (get_or s relation []) (get_or (apply s (map as_line lines.now)) relation [])) }
 {
     let after = rows_after(alloc, rows, relation, lines)?;
-    let deleted = rows_without(alloc, rows.as_slice(), after.copy(alloc)?)?;
-    let inserted = without(alloc, after, rows.copy(alloc)?)?;
-    Ok(Delta {
-        deleted: sort_rows(deleted)?,
-        inserted: sort_rows(inserted)?,
-    })
+    let deleted = sort_rows(rows_without(alloc, rows.as_slice(), after.copy(alloc)?)?)?;
+    let before = rows.copy(alloc)?;
+    let inserted = sort_rows(without(alloc, after, before)?)?;
+    Ok(Delta { deleted, inserted })
 }
 
 /// The same of each relation.
