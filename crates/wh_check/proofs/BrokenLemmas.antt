@@ -1,5 +1,5 @@
 -- What is broken first depends on the rows as sets alone.
-use Rattle.std.proofs.Common.{◌≡◌, ℕ, ◌+◌, ◌<◌, List, [], ◌∷◌, ◌++◌, map, length, get_or, not, Contains, refl, sym, ap, ◌∙◌}
+use Rattle.std.proofs.Common.{◌≡◌, ℕ, ◌+◌, List, [], ◌∷◌, ◌++◌, map, length, get_or, not, Contains, refl, sym, ap, ◌∙◌}
 use Rattle.wh_base.specs.RowSet.{SameRows, has, in_order}
 use Rattle.wh_base.proofs.InOrder.{SameMembers-from, SameRows-from, in_order-same}
 use Rattle.wh_base.proofs.RowSets.{SameRows-filter, SameRows-map}

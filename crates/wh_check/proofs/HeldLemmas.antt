@@ -1,8 +1,7 @@
 -- The sources that the tables of a warehouse give back.
-use Rattle.std.proofs.Common.{◌≡◌, ℕ, zero, suc, ◌+◌, ◌<◌, ◌==◌, true, List, [], ◌∷◌, ◌++◌, map, length, get_or, Result, Ok, Err, IfOk, refl, sym, ap, subst, ◌∙◌, arith}
-use Rattle.std.specs.List.{list_all}
+use Rattle.std.proofs.Common.{◌≡◌, ℕ, zero, suc, ◌<◌, ◌==◌, true, List, [], ◌∷◌, ◌++◌, map, length, get_or, Result, Ok, Err, IfOk, refl, sym, ap, subst, ◌∙◌, arith}
 use Rattle.std.proofs.lemmas.Bool.{and_parts, eqb-true}
-use Rattle.std.proofs.lemmas.List.{get_or-map, length-map}
+use Rattle.std.proofs.lemmas.List.{get_or-map}
 use Rattle.wh_answer.specs.Answer.{rows_of}
 use Rattle.wh_answer.proofs.Below.{below_is}
 use Rattle.wh_answer.proofs.SameSources.{reconstructed_same}
@@ -19,7 +18,6 @@ use Rattle.wh_laws.proofs.Reconstruction.{same_rows_is, same_rows_sym, same_rows
 use Rattle.wh_laws.proofs.Stored.{length_numbers_map, numbers_map_at}
 use Rattle.wh_load.specs.Load.{HasDistinctRows}
 use Rattle.wh_load.proofs.DistinctLemmas.{AreDistinct-first_seen, HasDistinctRows-nil}
-use Rattle.wh_schema.specs.declared.broken.Broken.{Broken}
 use Rattle.wh_schema.specs.declared.spec.Spec.{Spec}
 use Rattle.wh_schema.specs.Constraints.{broken}
 use Rattle.wh_schema.specs.Heads.{heads_of}
@@ -27,7 +25,7 @@ use Rattle.wh_schema.specs.Legality.{WellFormed}
 use Rattle.wh_schema.specs.Reconstruction.{SameTables, reconstructed}
 use Rattle.wh_schema.specs.Warehouse.{Row, SameState, State, numbers}
 use Rattle.wh_store.specs.declared.warehouse.Warehouse.{Warehouse}
-use Rattle.wh_store.specs.Image.{Image, applies, apply_to, changed_table, no_delta, stored_count}
+use Rattle.wh_store.specs.Image.{Image, apply_to, changed_table, no_delta, stored_count}
 use Rattle.wh_store.specs.Warehouse.{IsInForm, IsWarehouseOf, no_table}
 use Rattle.wh_store.proofs.TextualLemmas.{textual_is_well_formed}
 use Rattle.wh_table.specs.Table.{IndexedRows}

@@ -1,6 +1,5 @@
 -- The net effect of lines.
-use Rattle.std.proofs.Common.{◌≡◌, ℕ, ◌+◌, ◌<◌, ◌≤◌, ◌==◌, Bool, true, false, not, ◌&&◌, if◌then◌else◌, nat_eq, List, [], ◌∷◌, ◌++◌, map, fold, take, length, get_or, set, replicate, Contains, refl, sym, ap, subst, ◌∙◌, inl, inr, arith}
-use Rattle.std.specs.List.{list_all}
+use Rattle.std.proofs.Common.{◌≡◌, ℕ, ◌+◌, ◌<◌, ◌≤◌, ◌==◌, Bool, true, not, ◌&&◌, if◌then◌else◌, nat_eq, List, [], ◌∷◌, ◌++◌, map, fold, take, length, get_or, replicate, Contains, refl, sym, ap, subst, ◌∙◌, inl, inr, arith}
 use Rattle.std.proofs.lemmas.Bool.{and_from, eq-eqb}
 use Rattle.std.proofs.lemmas.List.{length-replicate, length-set, take_all}
 use Rattle.std.proofs.lemmas.List.Elements.{Contains-append_cases, Contains-append_left, Contains-append_right}
@@ -18,15 +17,15 @@ use Rattle.wh_fit.specs.Differences.{difference, differences}
 use Rattle.wh_fit.proofs.DifferenceLemmas.{difference_applies, lost_from, lost_in}
 use Rattle.wh_laws.proofs.Equality.{has_decides, is_not, is_not_in, row_is_in}
 use Rattle.wh_laws.proofs.Lines.{line_changes}
-use Rattle.wh_laws.proofs.Lists.{every_in, filter_from, filter_in, map_same}
+use Rattle.wh_laws.proofs.Lists.{every_in, filter_from, filter_in}
 use Rattle.wh_laws.proofs.Pieces.{numbers_from}
-use Rattle.wh_laws.proofs.Reconstruction.{same_rows_is, same_rows_sym, same_rows_trans}
+use Rattle.wh_laws.proofs.Reconstruction.{same_rows_is, same_rows_trans}
 use Rattle.wh_laws.proofs.Stored.{length_numbers_map, numbers_map_at}
 use Rattle.wh_schema.specs.declared.spec.Spec.{Spec}
 use Rattle.wh_schema.specs.Changes.{Line, apply, apply_line}
-use Rattle.wh_schema.specs.Reconstruction.{order, reconstruct_next, reconstructed, reconstructed_rows}
+use Rattle.wh_schema.specs.Reconstruction.{order, reconstruct_next, reconstructed_rows}
 use Rattle.wh_schema.specs.Warehouse.{Row, SameState, State, numbers}
-use Rattle.wh_store.specs.Image.{Image, applies, apply_to, changed_table, changed_tables, no_delta}
+use Rattle.wh_store.specs.Image.{Image, applies, apply_to, changed_table, no_delta}
 use Rattle.wh_check.specs.Check.{held_sources, source_deltas, sources_after, sources_with}
 
 -- ---- how many relations there are

@@ -68,12 +68,7 @@ fn apply_line(
 }
 
 /// The rows of a relation after the lines, from those before.
-fn rows_after(
-    alloc: Global,
-    rows: &Rows,
-    relation: usize,
-    lines: &[Line],
-) -> Result<Rows, NoMemory>
+fn rows_after(alloc: Global, rows: &Rows, relation: usize, lines: &[Line]) -> Result<Rows, NoMemory>
     ensures { IfOk result (λ after. (s : SourceState) → relation < length s → SameRows rows.now (get_or s relation []) → SameRows after (get_or (apply s (map as_line lines.now)) relation [])) }
 {
     let mut set = set_of(alloc, rows.copy(alloc)?)?;
@@ -84,12 +79,7 @@ fn rows_after(
 }
 
 /// The rows that the lines take from a relation and bring to it in the end, in row order.
-fn delta_of(
-    alloc: Global,
-    rows: &Rows,
-    relation: usize,
-    lines: &[Line],
-) -> Result<Delta, NoMemory>
+fn delta_of(alloc: Global, rows: &Rows, relation: usize, lines: &[Line]) -> Result<Delta, NoMemory>
     ensures { IfOk result (λ d. (s : SourceState) → relation < length s → SameRows rows.now (get_or s relation []) → d ≡ difference (get_or s relation []) (get_or (apply s (map as_line lines.now)) relation [])) }
 {
     let after = rows_after(alloc, rows, relation, lines)?;
