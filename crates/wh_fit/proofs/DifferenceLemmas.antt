@@ -26,12 +26,12 @@ use Rattle.wh_fit.proofs.StoredKinds.{stored_count_is, stored_fits}
 
 -- ---- rows that one list has and another lacks
 
-lost_from : (before after : List Row) (x : Row) → Contains (in_order (without before after)) x → Contains before x × (Contains after x → ⊥)
+pub lost_from : (before after : List Row) (x : Row) → Contains (in_order (without before after)) x → Contains before x × (Contains after x → ⊥)
 lost_from before after x k =
     let f = filter_from (λ r. not (has after r)) before x (Contains-from_in_order (without before after) x k) in
     (f.0, is_not (has after x) (has_decides after x) f.1)
 
-lost_in : (before after : List Row) (x : Row) → Contains before x → (Contains after x → ⊥) → Contains (in_order (without before after)) x
+pub lost_in : (before after : List Row) (x : Row) → Contains before x → (Contains after x → ⊥) → Contains (in_order (without before after)) x
 lost_in before after x k missing =
     Contains-in_order (without before after) x (filter_in (λ r. not (has after r)) before x k (is_not_in (has after x) (has_decides after x) missing))
 
@@ -45,7 +45,7 @@ none_has rows others h =
 -- ---- one table
 
 module _ (before after : List Row) where
-  difference_applies : applies before (difference before after) ≡ true
+  pub difference_applies : applies before (difference before after) ≡ true
   difference_applies =
       let d = difference before after in
       and_from (list_all (has before) d.deleted) (not (list_any (has before) d.inserted))
