@@ -5,3 +5,6 @@ mod overlay;
 mod tables;
 
 pub use overlay::Overlay;
+
+#[cfg(test)]
+mod tests;

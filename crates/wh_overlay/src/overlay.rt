@@ -8,7 +8,9 @@ ghost use Rattle.wh_table.specs.Table.{IndexedRows};
 
 use crate::tables::{deleted_rows, inserted_rows, tables_of};
 use std::alloc::Global;
-use wh_base::{Delta, Duplicate, Heads, Name, Names, NoMemory, Row, Rows, SourceDeltas, distinct_rows};
+use wh_base::{
+    Delta, Duplicate, Heads, Name, Names, NoMemory, Row, Rows, SourceDeltas, distinct_rows,
+};
 use wh_eval::{Base, append, columns_of, probe_where, without};
 use wh_steps::{Ledger, Steps};
 use wh_table::Tables;
