@@ -1,18 +1,17 @@
 -- Tables of rows, each column of which can be looked up alone.
-use Rattle.std.proofs.Common.{◌≡◌, ℕ, zero, suc, ◌<◌, true, false, eqb, List, [], ◌∷◌, ◌++◌, map, length, get_or, Some, None, Option, zero-add, refl, sym, ap, subst, ◌∙◌, arith}
+use Rattle.std.proofs.Common.{◌≡◌, ℕ, zero, suc, ◌<◌, true, false, eqb, List, [], ◌∷◌, ◌++◌, map, length, get_or, Some, Option, zero-add, refl, sym, ap, subst, ◌∙◌, arith}
 use Rattle.std.specs.Prelude.{All, slice_get}
 use Rattle.std.specs.List.{IsDistinct, list_all, list_any, range_with_len}
 use Rattle.std.proofs.Math.ListN.{get_or-map}
 use Rattle.std.proofs.lemmas.List.{append-nil}
 use Rattle.std.proofs.lemmas.List.Elements.{All-from_recursion}
 use Rattle.std.proofs.lemmas.List.FromFn.{length-map-range_with_len, get_or-map-range_with_len}
-use Rattle.std.proofs.lemmas.Map.Keys.{IsDistinct-cons}
 use Rattle.wh_base.specs.declared.value.Attr.{Attr}
 use Rattle.wh_base.specs.declared.value.Delta.{Delta}
 use Rattle.wh_base.specs.declared.value.Value.{Value}
 use Rattle.wh_base.specs.RowSet.{has, AreDistinct, IsSetOf, SameRows}
 use Rattle.wh_base.specs.Tables.{without}
-use Rattle.wh_eval.specs.Stored.{fits, rows_in}
+use Rattle.wh_eval.specs.Stored.{fits}
 use Rattle.wh_eval.proofs.StoredLemmas.{fits_begun}
 use Rattle.wh_overlay.specs.Overlay.{no_delta, deleted_at, inserted_at, HaveRows}
 use Rattle.wh_table.specs.Table.{CanApply, IndexedRows, IsColumnSet}

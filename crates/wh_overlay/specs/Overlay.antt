@@ -5,7 +5,7 @@ use Rattle.wh_base.specs.declared.head.Head.{Head}
 use Rattle.wh_base.specs.declared.value.Delta.{Delta}
 use Rattle.wh_base.specs.declared.value.Value.{Value}
 use Rattle.wh_base.specs.Heads.{attrs_at}
-use Rattle.wh_base.specs.RowSet.{SameRows, has}
+use Rattle.wh_base.specs.RowSet.{SameRows}
 use Rattle.wh_base.specs.Tables.{without}
 use Rattle.wh_eval.specs.Stored.{fits, rows_in}
 use Rattle.wh_table.specs.Table.{IndexedRows}

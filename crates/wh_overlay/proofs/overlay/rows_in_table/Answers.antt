@@ -1,4 +1,4 @@
-use Rattle.std.proofs.Common.{◌∙◌, sym, subst}
+use Rattle.std.proofs.Common.{subst}
 use Rattle.wh_base.specs.Tables.{matching}
 use Rattle.wh_base.specs.RowSet.{IsSetOf}
 use Rattle.wh_eval.specs.Stored.{rows_in}

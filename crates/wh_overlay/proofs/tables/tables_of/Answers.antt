@@ -1,6 +1,5 @@
-use Rattle.std.proofs.Common.{◌≡◌, ℕ, ◌+◌, ◌++◌, ◌∷◌, [], get_or, Some, Option, length, true, sym, ap, subst, ◌∙◌}
+use Rattle.std.proofs.Common.{◌≡◌, ℕ, ◌+◌, ◌++◌, ◌∷◌, [], get_or, Option, length, true, sym, ap, subst, ◌∙◌}
 use Rattle.std.proofs.lemmas.List.{length_push}
-use Rattle.wh_base.specs.declared.value.Value.{Value}
 use Rattle.wh_base.specs.Heads.{attrs_at}
 use Rattle.wh_eval.specs.Stored.{fits}
 use Rattle.wh_overlay.specs.Overlay.{FitNumbers, HaveRows}
