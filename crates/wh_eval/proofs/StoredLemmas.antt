@@ -144,7 +144,7 @@ narrower true false false h = refl
 narrower false p q h = refl
 
 -- the rows with the first of some values, narrowed to those with all of them
-narrowed_set : (columns names : List (List ℕ)) (vals : List Value) (rows found kept : List (List Value)) → 0 < length names
+pub narrowed_set : (columns names : List (List ℕ)) (vals : List Value) (rows found kept : List (List Value)) → 0 < length names
     → IsSetOf found (matching_at (map (place_of columns) (take 1 names)) (picked (0 ∷ []) vals) rows) → kept ≡ matching columns names vals found → IsSetOf kept (matching columns names vals rows)
 narrowed_set columns names vals rows found kept some h is =
     let p = λ (r : List Value). row_eq (picked (map (place_of columns) (take 1 names)) r) (picked (0 ∷ []) vals) in
@@ -155,11 +155,3 @@ narrowed_set columns names vals rows found kept some h is =
           ap (λ k. has k r) is ∙ has-filter q found r ∙ ap (λ b. b && q r) (h.same r ∙ has-filter p rows r)
           ∙ narrower (has rows r) (p r) (q r) (first_value columns names vals r some) ∙ sym (has-filter q rows r);
     }
-
--- the same where the arguments are known by equations alone
-pub IsSetOf-narrowed : (columns again head names cols : List (List ℕ)) (vals : List Value) (rows meant found kept : List (List Value)) → columns ≡ head → again ≡ head → names ≡ cols → rows ≡ meant → 0 < length cols
-    → IsSetOf found (matching_at (map (place_of columns) (take 1 names)) (picked (0 ∷ []) vals) rows) → kept ≡ matching again names vals found → IsSetOf kept (matching head cols vals meant)
-IsSetOf-narrowed columns again head names cols vals rows meant found kept a b e m some h is =
-    narrowed_set head cols vals meant found kept some
-    (subst (IsSetOf found) (λ i. matching_at (map (place_of (a i)) (take 1 (e i))) (picked (0 ∷ []) vals) (m i)) h)
-    (is ∙ (λ i. matching (b i) (e i) vals found))

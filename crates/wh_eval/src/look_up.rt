@@ -9,7 +9,7 @@ use std::alloc::Global;
 use wh_base::{Duplicate, Heads, Name, Names, NoMemory, Row, Rows, Value, names_of, places_of};
 
 /// The columns of a number, or none past the last head.
-pub(crate) fn columns_of(alloc: Global, heads: &Heads, n: u32) -> Result<Names, NoMemory>
+pub fn columns_of(alloc: Global, heads: &Heads, n: u32) -> Result<Names, NoMemory>
     ensures { IfOk result (λ names. names ≡ columns_at heads.now n) }
 {
     match heads.get(n as usize) {

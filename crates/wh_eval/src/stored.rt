@@ -111,10 +111,14 @@ impl<'a> Base for Stored<'a> {
         steps: &mut Steps<L>,
     ) -> Result<Rows, NoMemory> {
         let columns = look_up::columns_of(alloc, self.heads, n)?;
-        let table = self.table_at(n);
-        let names = cols.as_slice();
-        let found = with_first(alloc, table, columns.as_slice(), names, vals, steps)?;
-        look_up::rows_where(alloc, found, columns.as_slice(), names, vals)
+        probe_where(
+            alloc,
+            self.table_at(n),
+            columns.as_slice(),
+            cols.as_slice(),
+            vals,
+            steps,
+        )
     }
 }
 
@@ -153,6 +157,27 @@ fn with_first<L: Ledger>(
     let places = places_of(alloc, columns, &names[..1])?;
     let values = pick_at(alloc, vals, &[0])?;
     table.probe(alloc, &places, &values, steps)
+}
+
+/// The rows of a table with these values at the names, by a probe of the first of them alone. The columns of the table are
+/// named, and each is an indexed set.
+pub fn probe_where<L: Ledger>(
+    alloc: Global,
+    table: &Table,
+    columns: &[Name],
+    names: &[Name],
+    vals: &Row,
+    steps: &mut Steps<L>,
+) -> Result<Rows, NoMemory>
+    requires columns { IsTrue (all_in columns.now names.now) }
+    requires some { 0 < length names.now }
+    requires singles { IsTrue (has_singles table.now.indexes (length columns.now)) }
+    ensures rows { IfOk result (λ rows. IsSetOf rows (matching columns.now names.now vals.now table.now.rows)) }
+    ensures probes { steps.old.probes ≤ steps.new.probes }
+    ensures scans { steps.new.scans ≡ steps.old.scans }
+{
+    let found = with_first(alloc, table, columns, names, vals, steps)?;
+    look_up::rows_where(alloc, found, columns, names, vals)
 }
 
 /// A table fits the attributes of its number exactly where it is as wide, and each of its columns alone is an indexed set.

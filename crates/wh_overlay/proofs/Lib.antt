@@ -1,0 +1,2 @@
+mod OverlayLemmas
+mod TableLemmas
