@@ -5,7 +5,7 @@ ghost use Rattle.wh_store.specs.Image.{both};
 ghost use Rattle.wh_store.specs.Opening.{IsSound, IsSoundState, IsStateOf, IsNoRefusal, found_of, image_of, IsChosen};
 ghost use Rattle.wh_store.specs.declared.replay.FileState.TheVariants as state;
 ghost use Rattle.wh_store.specs.Store.{IsOpen, is_disk_fault, UnlessDiskFault};
-ghost use Rattle.wh_store.specs.Warehouse.{IsInForm, IsWarehouseOf};
+ghost use Rattle.wh_store.specs.Warehouse.{HoldsValues, IsInForm, IsWarehouseOf};
 
 use crate::fault::StoreFault;
 use crate::replay::{FileState, Replay, state_in};
@@ -107,6 +107,7 @@ fn chosen(first: FileState, second: FileState) -> Result<(Which, Replay), StoreF
 fn opened(alloc: Global, which: Which, state: Replay) -> Result<(Warehouse, Place), StoreFault>
     requires { IsSound state }
     ensures warehouse { IfOk result (λ opened. IsWarehouseOf (image_of state) opened.0) }
+    ensures values { IfOk result (λ opened. HoldsValues opened.0) }
     ensures place { IfOk result (λ opened. opened.1 ≡ record { which = which; generation = state.generation; journal = state.journal; live = true }) }
     ensures fault { IfErr result IsNoRefusal }
     ensures no_disk { is_disk_fault result ≡ false }
@@ -139,6 +140,7 @@ fn outcome(
     requires second { IsSoundState second }
     ensures answer { (a b : List ℕ) → IsStateOf a first → IsStateOf b second → IsOpen a b result }
     ensures form { IfOk result (λ opened. IsInForm opened.0) }
+    ensures values { IfOk result (λ opened. HoldsValues opened.0) }
     ensures no_disk { is_disk_fault result ≡ false }
 {
     match chosen(first, second) {
@@ -156,6 +158,7 @@ pub fn open_store<D: Disk>(
 ) -> Result<(Warehouse, Place), StoreFault>
     ensures answer { IfSome (D.content first.old) (λ a. IfSome (D.content second.old) (λ b. IsOpen a b result)) }
     ensures form { IfOk result (λ opened. IsInForm opened.0) }
+    ensures values { IfOk result (λ opened. HoldsValues opened.0) }
     ensures first_same { D.content first.new ≡ D.content first.old }
     ensures second_same { D.content second.new ≡ D.content second.old }
     ensures first_durable { UnlessDiskFault result (IsSettled (D.content first.new) (D.images first.new)) }
