@@ -5,6 +5,7 @@ use Rattle.std.specs.List.{AllByRecursion}
 use Rattle.std.proofs.lemmas.Bool.{and_parts}
 use Rattle.std.proofs.lemmas.List.Elements.{All-from_recursion, recursion_from_All, All-take, All-drop}
 use Rattle.std.specs.Str.{bytes_eq}
+use Rattle.wh_base.specs.RowSet.{IsAscending}
 use Rattle.wh_codec.specs.declared.frame.Frame.{Frame}
 use Rattle.wh_codec.specs.declared.frame.Frame.TheVariants.{Snapshot, Change}
 use Rattle.wh_codec.specs.Body.{IsSpelled, IsSpelledTable}
@@ -23,10 +24,12 @@ use Rattle.wh_spec_text.proofs.TextualLemmas.{answers_are_textual}
 use Rattle.wh_store.specs.declared.warehouse.Which.TheVariants.{First, Second}
 use Rattle.wh_store.specs.Image.{Active, Image, accepted_from, after_first, after_frame, apply_to, are_stored_deltas, are_stored_tables, both, changed_tables, end_behind, equal_generations, file_image, first_over, fit_stored, holding, image_of_bodies, image_of_frames, later_of, printed_spec, replayed, replayed_on, snapshot_over, some_image}
 use Rattle.wh_store.specs.Warehouse.{Stands}
+use Rattle.wh_store.proofs.ChangedTables.{changed_ascend}
 use Rattle.wh_store.proofs.SpelledTables.{changed_spelled, tables_spelled}
 use Rattle.wh_fit.specs.Differences.{IsStorable}
 use Rattle.wh_fit.specs.Fit.{AreSpelledRows}
 use Rattle.wh_fit.specs.Held.{AreBytes, IsFittingImage}
+use Rattle.wh_fit.proofs.Each.{each_from, each_in}
 use Rattle.wh_fit.proofs.Sources.{sources_fit, sources_spelled}
 use Rattle.wh_fit.proofs.TextSpecs.{found}
 
@@ -102,7 +105,13 @@ snapshot_fits generation seq tables end text (Some spec) i is h e =
     let made : Image = record { generation = generation; seq = seq; spec = spec; tables = tables; end = end } in
     let w = when_some (are_stored_tables spec tables) made i e in
     let p = stored_parts spec tables w.0 in
-    let fits : IsFittingImage made = record { textual = printed_textual text spec is; fits = p.0; under = p.1; spelled = tables_spelled tables h } in
+    let fits : IsFittingImage made = record {
+      textual = printed_textual text spec is;
+      fits = p.0;
+      ascending = each_in IsAscending tables (λ rows k. (each_from IsSpelledTable tables h rows k).ascending);
+      under = p.1;
+      spelled = tables_spelled tables h;
+    } in
     subst IsFittingImage w.1 fits
 
 first_fits : (end : ℕ) (o : Option Frame) (i : Image) → ((frame : Frame) → o ≡ Some frame → IsSpelled frame) → after_first end o ≡ Some i → IsFittingImage i
@@ -122,7 +131,13 @@ next_fits i end (Some (Change seq deltas)) j fits h e =
     let q = and_parts (apply_to i.tables deltas) (are_stored_tables i.spec tables) p.1 in
     let t = stored_parts i.spec tables q.1 in
     let deltas_spelled = (h (Change seq deltas) refl).deltas in
-    let fit : IsFittingImage made = record { textual = fits.textual; fits = t.0; under = t.1; spelled = changed_spelled i.tables deltas fits.spelled deltas_spelled } in
+    let fit : IsFittingImage made = record {
+      textual = fits.textual;
+      fits = t.0;
+      ascending = changed_ascend i.tables deltas;
+      under = t.1;
+      spelled = changed_spelled i.tables deltas fits.spelled deltas_spelled;
+    } in
     subst IsFittingImage w.1 fit
 
 step_on : (more : Image → Result Image ℕ) (at : ℕ) (o : Option Image) (j : Image) → replayed_on more at o ≡ Ok j → (i : Image) × (o ≡ Some i) × (more i ≡ Ok j)
