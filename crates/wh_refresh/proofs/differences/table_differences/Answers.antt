@@ -1,4 +1,4 @@
-use Rattle.std.proofs.Common.{◌≡◌, ◌∙◌, ◌+◌, ◌<◌, ◌≤◌, ℕ, List, [], ◌∷◌, ◌++◌, Option, None, Some, length, map, get_or, ap, subst, sym, rules, arith, below_more}
+use Rattle.std.proofs.Common.{◌≡◌, ◌∙◌, ◌+◌, ◌<◌, ◌≤◌, ℕ, zero, suc, List, [], ◌∷◌, ◌++◌, Option, None, Some, length, map, get_or, ap, subst, sym, refl, rules, arith, below_more}
 use Rattle.std.specs.List.{AllByRecursion}
 use Rattle.std.proofs.lemmas.List.{get_or_append_left, get_or_at, length_push}
 use Rattle.wh_base.specs.declared.value.Delta.{Delta}
@@ -32,11 +32,20 @@ all_told tables after deltas count each =
     same_items no_delta deltas (differences before after) (count ∙ sym (differences_count before after ∙ long))
     (λ k below. each k (omega (arith, below, count)) ∙ sym (difference_at before after k (omega (arith, below, count, long)) ∙ ap (λ (rows : List Row). difference rows (get_or after k [])) (tables_at tables k)))
 
+-- an item that is there, whatever stands for one that is not
+any_default : {X : Type 0} (xs : List X) (k : ℕ) (d e : X) → k < length xs → get_or xs k d ≡ get_or xs k e
+any_default [] k d e below = absurd (omega (arith, below))
+any_default (x ∷ xs) zero d e below = refl
+any_default (x ∷ xs) (suc k) d e below = any_default xs k d e (omega (arith, below))
+
+item_at : {X : Type 0} (seen xs : List X) (k : ℕ) (x d : X) → x ≡ get_or seen k x → seen ≡ xs → k < length xs → x ≡ get_or xs k d
+item_at {X = X} seen xs k x d is same below = is ∙ ap (λ (ys : List X). get_or ys k x) same ∙ any_default xs k x d below
+
 pub table_difference-requires : goal.table_difference-requires
 table_difference-requires g c =
     let n = c.loop-k.k in
     let here : n < length c.args.after.now = search rules in
-    let is : c.as_slice-in-loop-k.result.now ≡ get_or c.args.after.now n [] = search rules in
+    let is : c.as_slice-in-loop-k.result.now ≡ get_or c.args.after.now n [] = c.as_slice-in-loop-k.ensures ∙ item_at c.as_slice.result.now c.args.after.now n c.index-as_slice-k.result [] c.index-as_slice-k.is c.as_slice.ensures here in
     subst IsAscending (sym is) (item_of IsAscending c.args.after.now [] n c.requires.ascending here)
 
 pub loop-k-preserved : goal.loop-k-preserved
@@ -44,8 +53,10 @@ loop-k-preserved g c =
     let tables = c.args.tables.now in
     let n = c.loop-k.k in
     let t : IndexedRows = c.table-item.result in
-    let at : t ≡ table_at tables n = search rules in
-    let there : c.as_slice-in-loop-k.result.now ≡ get_or c.args.after.now n [] = search rules in
+    let below : n < length tables = search rules in
+    let within : n < length c.args.after.now = search rules in
+    let at : t ≡ table_at tables n = item_at c.as_slice-table-items.result.now tables n t no_table c.table-item.is c.as_slice-table-items.ensures below in
+    let there : c.as_slice-in-loop-k.result.now ≡ get_or c.args.after.now n [] = c.as_slice-in-loop-k.ensures ∙ item_at c.as_slice.result.now c.args.after.now n c.index-as_slice-k.result [] c.index-as_slice-k.is c.as_slice.ensures within in
     let here = told_at tables c.args.after.now n t c.as_slice-in-loop-k.result.now c.in_ok-delta.delta at there c.in_ok-delta.ensures.delta in
     record {
       count = ap length c.in_ok-push.ensures.ok ∙ length_push c.loop-k.deltas c.in_ok-delta.delta ∙ ap (λ (m : ℕ). m + 1) c.loop-k.invariant.count;
