@@ -1,7 +1,9 @@
 ghost use Rattle.std.specs.Prelude.{◌≡◌};
+ghost use Rattle.wh_refresh.specs.Net.{of_load};
 ghost use Rattle.wh_refresh.specs.declared.fault.RefreshFault.TheVariants as fault;
 
-use wh_base::NoMemory;
+use wh_base::{Failed, NoMemory};
+use wh_load::LoadFault;
 use wh_schema::Broken;
 
 /// Why a change was not made. They are tested in this order.
@@ -24,5 +26,25 @@ impl From<NoMemory> for RefreshFault {
 
     fn from(_no_memory: NoMemory) -> RefreshFault {
         RefreshFault::NoMemory
+    }
+}
+
+impl From<Failed> for RefreshFault {
+    ghost from_gives = { λ _ e. e ≡ fault.DiskFault };
+
+    fn from(_failed: Failed) -> RefreshFault {
+        RefreshFault::DiskFault
+    }
+}
+
+impl From<LoadFault> for RefreshFault {
+    ghost from_gives = { λ fault e. e ≡ of_load fault };
+
+    fn from(fault: LoadFault) -> RefreshFault {
+        match fault {
+            LoadFault::Broken(broken) => RefreshFault::Broken(broken),
+            LoadFault::RowLimit { table } => RefreshFault::RowLimit { table },
+            LoadFault::NoMemory => RefreshFault::NoMemory,
+        }
     }
 }

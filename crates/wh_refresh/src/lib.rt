@@ -2,7 +2,9 @@
 #![tactic(auto)]
 
 mod fault;
-mod refresh;
+mod differences;
+mod net;
+mod refreshing;
 
 pub use fault::RefreshFault;
-pub use refresh::refresh;
+pub use refreshing::refresh;

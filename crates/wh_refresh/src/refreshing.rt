@@ -1,22 +1,26 @@
-ghost use Rattle.std.specs.Prelude.{◌≡◌, ◌+◌, ◌≤◌, ℕ, List, Some, true, map, IfOk, OnOk, OnErr, IfSome};
+ghost use Rattle.std.specs.Prelude.{◌≡◌, ◌+◌, ◌<◌, ◌≤◌, ◌^◌, ℕ, List, Some, None, true, false, length, map, IfOk, IfErr, OnOk, OnErr, IfSome};
 ghost use Rattle.std.specs.List.{AllByRecursion};
 ghost use Rattle.std.specs.Option.{ForSome, option_map};
+ghost use Rattle.wh_codec.specs.Body.{IsSpelledDelta};
 ghost use Rattle.wh_csv.specs.declared.change.Line as csv;
 ghost use Rattle.wh_fit.specs.Fit.{IsFittingLine, as_line};
 ghost use Rattle.wh_io.specs.Causes.{IsCountedPair};
 ghost use Rattle.wh_io.specs.Crash.{IsSettled, LeavesOnly};
 ghost use Rattle.wh_journal.specs.Journal.{IsJournalOf, appended};
+ghost use Rattle.wh_refresh.specs.Net.{IsFull, IsReady};
 ghost use Rattle.wh_refresh.specs.Refresh.{IsRefreshed, OnDiskFault, Refuses, is_disk_fault, stored_changes};
-ghost use Rattle.wh_store.specs.Commit.{IsHeldBeforeOrAfter, Matches, active_of, active_with, change_body, other_of};
+ghost use Rattle.wh_store.specs.Commit.{AreKept, CanApplyAll, IsHeldBeforeOrAfter, Matches, active_of, active_with, change_body, first_over_after, other_of};
 ghost use Rattle.wh_store.specs.Image.{Active, Image};
 ghost use Rattle.wh_store.specs.Warehouse.{HoldsValues, IsInForm, IsWarehouseOf};
 
 use crate::fault::RefreshFault;
+use crate::net::net_change;
 use std::alloc::Global;
+use wh_base::Duplicate;
 use wh_csv::Change;
 use wh_io::Disk;
 use wh_steps::{Ledger, Steps};
-use wh_store::{NetChange, Place, Warehouse};
+use wh_store::{NetChange, Place, Ready, StoreFault, Warehouse};
 
 /// Makes a change of the sources in the stored tables and in the active file, or says why not. A change that was accepted
 /// is acknowledged once this has answered Ok. A refusal leaves the warehouse, its place and both files as they were. At
@@ -61,6 +65,38 @@ pub fn refresh<D: Disk, L: Ledger>(
     ensures probes { steps.old.probes ≤ steps.new.probes }
     ensures scans { steps.old.scans ≤ steps.new.scans }
 {
-    let _ = (alloc, w, place, c, first, second, steps);
-    Err(RefreshFault::NoMemory)
+    let net = net_change(alloc, w, c, steps)?;
+    let ready = make_ready(alloc, w, place, &net)?;
+    w.commit(place, ready, first, second)?;
+    Ok(net)
+}
+
+// Takes all memory that the change of the stored tables needs. They keep their rows.
+fn make_ready(
+    alloc: Global,
+    w: &mut Warehouse,
+    place: &Place,
+    net: &NetChange,
+) -> Result<Ready, RefreshFault>
+    requires form { IsInForm w.old }
+    requires applies { CanApplyAll w.old.tables net.now.stored }
+    requires spelled { AllByRecursion IsSpelledDelta net.now.stored }
+    requires count { length net.now.stored < 2 ^ 32 }
+    requires under { first_over_after w.old.tables net.now.stored ≡ None }
+    ensures ready { IfOk result (IsReady w.new place.now net.now.stored) }
+    ensures full { IfErr result (IsFull w.old place.now net.now.stored) }
+    ensures kept { AreKept w.old.tables w.new.tables }
+    ensures form { IsInForm w.new }
+    ensures plan { w.new.plan ≡ w.old.plan }
+    ensures seq { w.new.seq ≡ w.old.seq }
+    ensures image { (i : Image) → IsWarehouseOf i w.old → IsWarehouseOf i w.new }
+{
+    let deltas = net.stored.copy(alloc)?;
+    match w.ready(alloc, place, deltas) {
+        Ok(ready) => Ok(ready),
+        Err(StoreFault::SequenceLimit) => Err(RefreshFault::SequenceLimit),
+        Err(StoreFault::FileLimit) => Err(RefreshFault::FileLimit),
+        Err(StoreFault::NoMemory) => Err(RefreshFault::NoMemory),
+        Err(_) => unreachable!(),
+    }
 }

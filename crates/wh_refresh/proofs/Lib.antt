@@ -1,0 +1,5 @@
+pub mod Counting
+pub mod Given
+pub mod Made
+pub mod Nets
+pub mod OwnImage
