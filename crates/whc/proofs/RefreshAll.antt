@@ -165,7 +165,7 @@ module _ {D : Type 0} (content : D → Option (List ℕ)) (images : D → List �
         };
         moves = m.moves;
         under_way = tt;
-        bytes = sym (m.bytes ∙ map_nothing (content (active_of m.now.which first_mid second_mid)) ∙ ap (λ (x : Which). content (active_of x first_mid second_mid)) m.which_is);
+        bytes = sym (m.bytes ∙ map_nothing (content (active_of active.which first_mid second_mid)));
       }
         where
           all : pieces ≡ m.done
@@ -182,26 +182,26 @@ module _ {D : Type 0} (content : D → Option (List ℕ)) (images : D → List �
         abbrev piece : Piece
         piece = piece_of name t
 
-        abbrev later : List Piece
-        later = refresh_pieces held t.active rest
+        abbrev following : List Piece
+        following = refresh_pieces held t.active rest
 
-        pieces_here : pieces ≡ m.done ++ piece ∷ later
+        pieces_here : pieces ≡ m.done ++ piece ∷ following
         pieces_here = m.pieces_are
 
         at_done : state_after start pieces (length m.done) ≡ Ok (Some m.now)
-        at_done = ap (λ (l : List Piece). state_after start l (length m.done)) pieces_here ∙ last_at start m.done (piece ∷ later) ∙ m.state_is
+        at_done = ap (λ (l : List Piece). state_after start l (length m.done)) pieces_here ∙ last_at start m.done (piece ∷ following) ∙ m.state_is
 
         at_next : state_after start pieces (suc (length m.done)) ≡ Ok (Some t.active)
-        at_next = ap (λ (l : List Piece). state_after start l (suc (length m.done))) pieces_here ∙ next_at start m.done piece later
+        at_next = ap (λ (l : List Piece). state_after start l (suc (length m.done))) pieces_here ∙ next_at start m.done piece following
 
         taken_here : take (length m.done) pieces ≡ m.done
-        taken_here = ap (λ (l : List Piece). take (length m.done) l) pieces_here ∙ take_done m.done (piece ∷ later)
+        taken_here = ap (λ (l : List Piece). take (length m.done) l) pieces_here ∙ take_done m.done (piece ∷ following)
 
         printed_here : middle ≡ gained before (texts (take (length m.done) pieces))
         printed_here = m.printed ∙ ap (λ (l : List Piece). gained before (texts l)) (sym taken_here)
 
         done_below : length m.done < length pieces
-        done_below = let size = ap (λ (l : List Piece). length l) pieces_here in omega (arith, size, length-append m.done (piece ∷ later))
+        done_below = let size = ap (λ (l : List Piece). length l) pieces_here in omega (arith, size, length-append m.done (piece ∷ following))
 
         either_reached : (state : Holding) → IsEitherState m.now t.active state → Reached state
         either_reached state (inl is) = let below = done_below in record { j = length m.done; within = omega (arith, below); is = is ∙ sym at_done }
@@ -222,7 +222,7 @@ module _ {D : Type 0} (content : D → Option (List ℕ)) (images : D → List �
           now = t.active;
           done = m.done ++ piece ∷ [];
           left_is = ap (λ (k : ℕ). drop k names) (push_length m.done piece) ∙ drop_next names (length m.done) name rest m.left_is;
-          pieces_are = pieces_here ∙ sym (append_assoc m.done (piece ∷ []) later);
+          pieces_are = pieces_here ∙ sym (append_assoc m.done (piece ∷ []) following);
           status_is =
               m.status_is ∙ first_of_three so_far t.status (refresh_status held t.active rest) ∙ ap (λ (s : Status). first_status (first_status so_far s) (refresh_status held t.active rest)) (sym took.ends.0);
           state_is = last_push start m.done piece;
@@ -231,9 +231,10 @@ module _ {D : Type 0} (content : D → Option (List ℕ)) (images : D → List �
           which_is = which_after m.now judged ∙ m.which_is;
           moves = moves_here took.moves;
           bytes =
-              m.bytes ∙ sym (map_twice (file_after held t.active rest) (λ (b : List ℕ). file_by m.now b judged) (content (active_of m.now.which first_mid second_mid)))
+              m.bytes ∙ ap (λ (x : Which). option_map (file_after held m.now (name ∷ rest)) (content (active_of x first_mid second_mid))) (sym m.which_is)
+              ∙ sym (map_twice (file_after held t.active rest) (λ (b : List ℕ). file_by m.now b judged) (content (active_of m.now.which first_mid second_mid)))
               ∙ ap (λ (o : Option (List ℕ)). option_map (file_after held t.active rest) o) (sym took.bytes)
-              ∙ ap (λ (x : Which). option_map (file_after held t.active rest) (content (active_of x first_new second_new))) (sym (which_after m.now judged));
+              ∙ ap (λ (x : Which). option_map (file_after held t.active rest) (content (active_of x first_new second_new))) m.which_is;
         }
           where
             texts_push : texts m.done ++ piece.text ≡ texts (m.done ++ piece ∷ [])
@@ -265,7 +266,7 @@ module _ {D : Type 0} (content : D → Option (List ℕ)) (images : D → List �
             within = done_below;
             printed =
                 subst (λ (o : Option (List ℕ)). GainsPrefix o after (text_at pieces (length m.done))) printed_here
-                (subst (λ (l : List ℕ). GainsPrefix middle after l) (sym (ap (λ (l : List Piece). text_at l (length m.done)) pieces_here ∙ text_here m.done piece later)) took.ends.0);
+                (subst (λ (l : List ℕ). GainsPrefix middle after l) (sym (ap (λ (l : List Piece). text_at l (length m.done)) pieces_here ∙ text_here m.done piece following)) took.ends.0);
             state = rests_as first_new second_new t.active w_new p_new _ took.ends.1 at_next;
           };
           moves = moves_here took.moves;
@@ -306,10 +307,8 @@ module _ {D : Type 0} (content : D → Option (List ℕ)) (images : D → List �
     module _ (i : ℕ) (d : S) (name : List ℕ) (below : i < length names) (name_is : name ≡ bytes_of d) (item : d ≡ get_or names i d) where
       left_here : map bytes_of (drop i names) ≡ name ∷ map bytes_of (drop (i + 1) names)
       left_here =
-          ap (λ (l : List S). map bytes_of l) (drop-cons names i d) ∙ (λ k. sym (name_is ∙ ap bytes_of item) k ∷ map bytes_of (drop (next k) names))
-        where
-          next : suc i ≡ i + 1
-          next = omega arith
+          ap (map bytes_of) (drop-cons names i d below) ∙ ap (λ (n : ℕ). bytes_of (get_or names i d) ∷ map bytes_of (drop n names)) (sym (add-one i))
+          ∙ ap (λ (l : List ℕ). l ∷ map bytes_of (drop (i + 1) names)) (sym (name_is ∙ ap bytes_of item))
 
       module _ (so_far : Status) (first second first_new second_new : D) (middle after : Option (List ℕ)) (w w_new : Warehouse) (p p_new : Place) (halfway : Halfway i so_far first second middle w p) where
         abbrev Stepped : Result Status Stop → Type 0

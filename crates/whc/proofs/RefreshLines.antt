@@ -1,32 +1,25 @@
 -- The numbers and the line of an accepted change.
 use Rattle.std.proofs.Common.{◌≡◌, ℕ, zero, suc, ◌+◌, ◌<◌, ◌≤◌, List, [], ◌∷◌, length, get_or, take, map, sum, add_assoc, append_assoc, ◌++◌, sym, ◌∙◌, ap, arith}
 use Rattle.std.proofs.lemmas.List.{take_all}
+use Rattle.std.proofs.lemmas.List.Sums.{sum_by_more}
+use Rattle.std.specs.List.{sum_by}
 use Rattle.wh_base.specs.declared.value.Delta.{Delta}
 use Rattle.std.specs.Prelude.{codes, decimal}
 use Rattle.wh_base.specs.Lines.{line}
 use Rattle.whc.specs.Refresh.{deleted_count, inserted_count}
 use Rattle.whc.specs.RefreshSteps.{counts_words}
 
--- a sum over some first items
-abbrev summed : (Delta → ℕ) → List Delta → ℕ
-summed f deltas = sum (map f deltas)
-
-summed_suc : (f : Delta → ℕ) (deltas : List Delta) (i : ℕ) (d : Delta) → i < length deltas → d ≡ get_or deltas i d → summed f (take (suc i) deltas) ≡ summed f (take i deltas) + f d
-summed_suc f [] i d below is = absurd (omega arith)
-summed_suc f (first ∷ deltas) zero d below is = let same : f d ≡ f first = ap f is in omega (arith, same)
-summed_suc f (first ∷ deltas) (suc i) d below is = ap (λ (n : ℕ). f first + n) (summed_suc f deltas i d (omega (arith, below)) is) ∙ sym (add_assoc (f first) (summed f (take i deltas)) (f d))
-
-summed_more : (f : Delta → ℕ) (deltas : List Delta) (i : ℕ) (d : Delta) → i < length deltas → d ≡ get_or deltas i d → summed f (take (i + 1) deltas) ≡ summed f (take i deltas) + f d
-summed_more f deltas i d below is = let next : suc i ≡ i + 1 = omega arith in ap (λ (n : ℕ). summed f (take n deltas)) (sym next) ∙ summed_suc f deltas i d below is
+counted_more : (f : Delta → ℕ) (deltas : List Delta) (i : ℕ) (d : Delta) → i < length deltas → d ≡ get_or deltas i d → sum_by f (take (i + 1) deltas) ≡ sum_by f (take i deltas) + f d
+counted_more f deltas i d below is = sum_by_more f deltas i d below ∙ ap (λ (x : Delta). sum_by f (take i deltas) + f x) (sym is)
 
 pub deleted_more : (deltas : List Delta) (i : ℕ) (d : Delta) → i < length deltas → d ≡ get_or deltas i d → deleted_count (take (i + 1) deltas) ≡ deleted_count (take i deltas) + length d.deleted
-deleted_more = summed_more (λ (d : Delta). length d.deleted)
+deleted_more = counted_more (λ (d : Delta). length d.deleted)
 
 pub deleted_all : (deltas : List Delta) (i : ℕ) → length deltas ≤ i → deleted_count (take i deltas) ≡ deleted_count deltas
 deleted_all deltas i over = ap (λ (l : List Delta). deleted_count l) (take_all i deltas over)
 
 pub inserted_more : (deltas : List Delta) (i : ℕ) (d : Delta) → i < length deltas → d ≡ get_or deltas i d → inserted_count (take (i + 1) deltas) ≡ inserted_count (take i deltas) + length d.inserted
-inserted_more = summed_more (λ (d : Delta). length d.inserted)
+inserted_more = counted_more (λ (d : Delta). length d.inserted)
 
 pub inserted_all : (deltas : List Delta) (i : ℕ) → length deltas ≤ i → inserted_count (take i deltas) ≡ inserted_count deltas
 inserted_all deltas i over = ap (λ (l : List Delta). inserted_count l) (take_all i deltas over)

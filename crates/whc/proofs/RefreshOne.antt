@@ -1,5 +1,5 @@
 -- One change file: what is stored, what a crash leaves, and the bytes of the active file.
-use Rattle.std.proofs.Common.{◌≡◌, ◌⊎◌, inl, inr, ⊎_elim, ℕ, ◌+◌, ◌≤◌, Bool, true, false, if◌then◌else◌, List, [], ◌++◌, map, Option, None, Some, IfSome, Result, Ok, Err, OnOk, OnErr, refl, sym, ◌∙◌, ap, subst, arith, append_assoc}
+use Rattle.std.proofs.Common.{◌≡◌, ◌⊎◌, inl, inr, ⊎_elim, ℕ, ◌+◌, ◌-◌, ◌^◌, ◌==◌, ◌≤◌, Bool, true, false, if◌then◌else◌, List, [], ◌++◌, map, Option, None, Some, IfSome, Result, Ok, Err, OnOk, OnErr, refl, sym, ◌∙◌, ap, subst, arith, append_assoc}
 use Rattle.std.specs.Prelude.{codes, decimal}
 use Rattle.std.specs.Option.{ForSome, option_map}
 use Rattle.wh_base.specs.declared.value.Delta.{Delta}
@@ -9,17 +9,18 @@ use Rattle.wh_journal.specs.Journal.{appended}
 use Rattle.wh_refresh.specs.declared.fault.RefreshFault.{RefreshFault}
 use Rattle.wh_refresh.specs.declared.fault.RefreshFault.TheVariants as fault
 use Rattle.wh_refresh.specs.Refresh.{IsRefreshed, Refuses, checked, next_body, numbered, refreshed, sized, stored_changes}
-use Rattle.wh_schema.specs.declared.broken.Broken as broken
+use Rattle.wh_schema.specs.declared.broken.Broken as breach
 use Rattle.wh_schema.specs.Changes.{Line}
+use Rattle.wh_schema.specs.Constraints.{broken}
 use Rattle.wh_schema.specs.Warehouse.{stored}
-use Rattle.wh_check.specs.Check.{source_deltas}
+use Rattle.wh_check.specs.Check.{source_deltas, sources_after}
 use Rattle.wh_store.specs.declared.warehouse.NetChange.{NetChange}
 use Rattle.wh_store.specs.declared.warehouse.Place.{Place}
 use Rattle.wh_store.specs.declared.warehouse.Warehouse.{Warehouse}
 use Rattle.wh_store.specs.declared.warehouse.Which.{Which}
 use Rattle.wh_store.specs.declared.warehouse.Which.TheVariants.{First, Second}
-use Rattle.wh_store.specs.Commit.{IsHeldBeforeOrAfter, Matches, active_of, active_with, change_body, held_with, other_of}
-use Rattle.wh_store.specs.Image.{Active, Holding, Image, holding}
+use Rattle.wh_store.specs.Commit.{IsHeldBeforeOrAfter, Matches, active_of, active_with, change_body, held_with, is_past_limit, other_of}
+use Rattle.wh_store.specs.Image.{Active, Holding, Image, first_over, holding}
 use Rattle.wh_store.specs.Warehouse.{IsWarehouseOf}
 use Rattle.whc.specs.declared.refresh_line.Report.{Report}
 use Rattle.whc.specs.declared.status.Status.{Status}
@@ -38,16 +39,16 @@ numbered_is false true changes deltas is = absurd (cc (is))
 numbered_is false false changes deltas is = cc (is)
 
 sized_is : (i : Image) (lines : List Line) (over : Option ℕ) (deltas : List Delta) → sized i lines over ≡ Ok deltas → stored_changes i lines ≡ deltas
-sized_is i lines None deltas is = numbered_is _ _ (stored_changes i lines) deltas is
+sized_is i lines None deltas is = numbered_is (i.seq == 2 ^ 64 - 1) (is_past_limit i.end (next_body i lines)) (stored_changes i lines) deltas is
 sized_is i lines (Some k) deltas is = absurd (cc (is))
 
-checked_is : (i : Image) (lines : List Line) (found : Option broken.Broken) (deltas : List Delta) → checked i lines found ≡ Ok deltas → stored_changes i lines ≡ deltas
-checked_is i lines None deltas is = sized_is i lines _ deltas is
+checked_is : (i : Image) (lines : List Line) (found : Option breach.Broken) (deltas : List Delta) → checked i lines found ≡ Ok deltas → stored_changes i lines ≡ deltas
+checked_is i lines None deltas is = sized_is i lines (first_over (stored i.spec (sources_after i lines))) deltas is
 checked_is i lines (Some b) deltas is = absurd (cc (is))
 
 -- what is accepted are the changes of the stored tables
 pub accepted_is : (i : Image) (lines : List Line) (deltas : List Delta) → refreshed i lines ≡ Ok deltas → stored_changes i lines ≡ deltas
-accepted_is i lines deltas is = checked_is i lines _ deltas is
+accepted_is i lines deltas is = checked_is i lines (broken i.spec (sources_after i lines)) deltas is
 
 pub lines_accepted : (i : Image) (lines : List Line) (deltas : List Delta) → refreshed i lines ≡ Ok deltas → accepted_lines i (Ok lines) ≡ Ok lines
 lines_accepted i lines deltas is = ap (unless_refused i.spec lines) is
@@ -57,7 +58,7 @@ lines_refused i lines f is = ap (unless_refused i.spec lines) is
 
 -- ---- the line of what was accepted
 
-regroup : (name colon r n ls D p I ss d e end : List ℕ)
+pub regroup : (name colon r n ls D p I ss d e end : List ℕ)
     → ((((name ++ colon) ++ (r ++ n)) ++ (((ls ++ D) ++ p) ++ I)) ++ (((ss ++ d) ++ p) ++ e)) ++ end ≡ (name ++ colon ++ (((((((((r ++ n) ++ ls) ++ D) ++ p) ++ I) ++ ss) ++ d) ++ p) ++ e)) ++ end
 regroup name colon r n ls D p I ss d e end = simp append_assoc
 

@@ -9,6 +9,7 @@ use Rattle.wh_csv.specs.declared.change.Line as csv
 use Rattle.wh_csv.specs.declared.fault.CsvCause.{CsvCause}
 use Rattle.wh_csv.specs.declared.fault.CsvFault.TheVariants as csv_fault
 use Rattle.wh_fit.specs.Fit.{as_line}
+use Rattle.wh_io.specs.Causes.{IsCounted}
 use Rattle.wh_io.specs.Files.{Held}
 use Rattle.wh_schema.specs.Changes.{Line}
 use Rattle.wh_schema.specs.declared.spec.Spec.{Spec}
@@ -119,3 +120,6 @@ module _ (name : List ℕ) where
   last_disk (ReadFault file) is = refl
   last_disk NoMemory is = refl
   last_disk other is = absurd is
+
+pub unread_cause : (name : List ℕ) (stop : Stop) (result : Result Reading Stop) (before now : ℕ) → TellsUnread name stop result → IsCounted (is_read_fault {T = Reading} (Err stop)) before now → IsCounted (is_read_fault result) before now
+unread_cause name stop result before now tells cause = subst (λ (b : Bool). IsCounted b before now) (sym (unread_fault name stop result tells)) cause

@@ -55,10 +55,13 @@ module _ {D : Type 0} (content : D → Option (List ℕ)) (images : D → List �
       where
         by : (r : Result Active Stop) → r ≡ Err stop → EndsWhole (record { start = start; pieces = pieces_over h names r; finish = finish_over h names r }) (BothRest content images first_mid second_mid) before before (Err stop)
         by (Ok active) is = absurd (cc (is))
-        by (Err other) is = record { finish_is = is_finish other is; printed = sym (gained_nothing before); state = still }
-          where
-            is_finish : (other : Stop) → Err other ≡ Err stop → finish_over h names (Err other) ≡ Err stop
-            is_finish other is = cc (is)
+        by (Err other) is =
+            let same : other ≡ stop = cc (is) in
+            record {
+              finish_is = subst (λ (s : Stop). finish_over h names (Err other) ≡ Err s) same refl;
+              printed = sym (gained_nothing before);
+              state = still;
+            }
 
     unopened : (stop : Stop) → is_read_fault {T = Unit {0}} (Err stop) ≡ false → is_write_fault {T = Unit {0}} (Err stop) ≡ false → UnlessOutside (is_outside stop) (opened_active start ≡ Err stop) → Ended h start first_mid second_mid before before (Err stop)
     unopened (ReadFault file) read write is = absurd (true≢false read)

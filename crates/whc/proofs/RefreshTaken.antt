@@ -131,8 +131,8 @@ module _ {D : Type 0} (content : D → Option (List ℕ)) (images : D → List �
       abbrev image : Image
       image = active.image
 
-      abbrev after : Active
-      after = active_with active (stored_changes active.image lines)
+      abbrev changed : Active
+      changed = active_with active (stored_changes active.image lines)
 
       answered : IsRefreshed active.image lines (Ok net)
       answered = answer active stood.a stood.b stood.matches
@@ -140,13 +140,13 @@ module _ {D : Type 0} (content : D → Option (List ℕ)) (images : D → List �
       stored_is : net.stored ≡ stored_changes active.image lines
       stored_is = sym (accepted_is active.image lines net.stored answered.0)
 
-      matched : (c d : List ℕ) → content first_new ≡ Some c → content second_new ≡ Some d → Matches after c d w_new p_new
+      matched : (c d : List ℕ) → content first_new ≡ Some c → content second_new ≡ Some d → Matches changed c d w_new p_new
       matched c d told_c told_d =
           told_two (λ (c d : List ℕ). (active : Active) → Matches active stood.a stood.b w p → Matches (active_with active (stored_changes active.image lines)) c d w_new p_new) (content first_new) (content second_new) c d told_c told_d
           (told_two (λ (a b : List ℕ). IfSome (content first_new) (λ (c : List ℕ). IfSome (content second_new) (λ (d : List ℕ). (active : Active) → Matches active a b w p → Matches (active_with active (stored_changes active.image lines)) c d w_new p_new)))
               (content first) (content second) stood.a stood.b stood.told_first stood.told_second holds) active stood.matches
 
-      stood_on : StandsAt content images first_new second_new after w_new p_new
+      stood_on : StandsAt content images first_new second_new changed w_new p_new
       stood_on =
           stands_on content images moment images_since first second active w p stood first_new second_new (stored_changes active.image lines) other (left_moment active stood)
           (λ (file : List ℕ). appended file p.journal.end (change_body (w.seq + 1) net.stored)) w_new p_new file durable matched
@@ -311,15 +311,17 @@ module _ {D : Type 0} (content : D → Option (List ℕ)) (images : D → List �
       let same : w.plan.spec ≡ active.image.spec = stood.matches.warehouse.spec in
       ap (accepted_lines active.image) (subst (λ (s : Spec). lines_in s (held name) ≡ wanted) same is)
 
-  pub takes_lines : (first_new second_new : D) (w_new : Warehouse) (p_new : Place) (change : List csv.Line) (finish : Result Report Stop) → IsReading name (lines_in w.plan.spec (held name)) (Lines change)
+  pub takes_lines : (first_new second_new : D) (w_new : Warehouse) (p_new : Place) (change : List csv.Line) (reading : Reading) (finish : Result Report Stop) → reading ≡ Lines change → IsReading name (lines_in w.plan.spec (held name)) reading
       → Takes content images moment images_since name active (accepted_lines active.image (Ok (map as_line change))) first first_new second second_new w_new p_new finish
       → Takes content images moment images_since name active (accepted held active name) first first_new second second_new w_new p_new finish
-  takes_lines first_new second_new w_new p_new change finish read took =
+  takes_lines first_new second_new w_new p_new change reading finish is found took =
+      let read = subst (λ (r : Reading). IsReading name (lines_in w.plan.spec (held name)) r) is found in
       subst (λ (r : Result (List Line) Rejection). Takes content images moment images_since name active r first first_new second second_new w_new p_new finish) (sym (spec_read (Ok (map as_line change)) read)) took
 
   module _ (only_now : OnlyNow content images moment images_since) where
-    pub takes_turned : (report : Report) → IsReading name (lines_in w.plan.spec (held name)) (Rejected report) → Takes content images moment images_since name active (accepted held active name) first first second second w p (Ok report)
-    takes_turned report read =
+    pub takes_turned : (report : Report) (reading : Reading) → reading ≡ Rejected report → IsReading name (lines_in w.plan.spec (held name)) reading → Takes content images moment images_since name active (accepted held active name) first first second second w p (Ok report)
+    takes_turned report reading is found =
+        let read = subst (λ (r : Reading). IsReading name (lines_in w.plan.spec (held name)) r) is found in
         subst (λ (r : Result (List Line) Rejection). Takes content images moment images_since name active r first first second second w p (Ok report)) (sym (spec_read (Err read.0) read.1))
         (takes_rejection content images moment images_since first first second second w p only_now active stood refl refl w p (λ i of. of) refl name read.0 report read.2)
 

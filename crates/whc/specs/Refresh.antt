@@ -1,5 +1,6 @@
 -- What the command `refresh FILE..` comes to: a line for each change file, in their order, and the store after those that were accepted.
-use Rattle.std.specs.Prelude.{◌≡◌, ℕ, ◌+◌, ◌<◌, nat_lt, if◌then◌else◌, List, [], ◌∷◌, ◌++◌, length, map, get_or, take, sum, Option, None, Some, Result, Ok, Err, OnOk, codes, decimal}
+use Rattle.std.specs.Prelude.{◌≡◌, ℕ, ◌+◌, ◌<◌, nat_lt, if◌then◌else◌, List, [], ◌∷◌, ◌++◌, length, map, get_or, take, Option, None, Some, Result, Ok, Err, OnOk, codes, decimal}
+use Rattle.std.specs.List.{sum_by}
 use Rattle.std.specs.Option.{option_map}
 use Rattle.wh_base.specs.declared.value.Delta.{Delta}
 use Rattle.wh_base.specs.Lines.{line}
@@ -90,10 +91,10 @@ accepted held active name = accepted_lines active.image (lines_in active.image.s
 
 -- how many rows are deleted and inserted in all
 abbrev pub deleted_count : List Delta → ℕ
-deleted_count deltas = sum (map (λ (d : Delta). length d.deleted) deltas)
+deleted_count deltas = sum_by (λ (d : Delta). length d.deleted) deltas
 
 abbrev pub inserted_count : List Delta → ℕ
-inserted_count deltas = sum (map (λ (d : Delta). length d.inserted) deltas)
+inserted_count deltas = sum_by (λ (d : Delta). length d.inserted) deltas
 
 -- the number of the change, and the rows of the sources and of the stored tables that left and entered
 abbrev pub refreshed_words : Image → List Line → List ℕ

@@ -41,9 +41,12 @@ pub fn refresh<F: Files, O: Sink, D: Disk, L: Ledger>(
     ensures scans { steps.old.scans ≤ steps.new.scans }
 {
     match open_placed(alloc, first, second) {
-        Ok((mut w, mut place)) => refresh_all(
-            alloc, names, &mut w, &mut place, files, out, first, second, steps,
-        ),
+        Ok(opened) => {
+            let (mut w, mut place) = opened;
+            refresh_all(
+                alloc, names, &mut w, &mut place, files, out, first, second, steps,
+            )
+        }
         Err(stop) => Err(stop),
     }
 }
