@@ -106,7 +106,7 @@ module _ (w : Warehouse) (form : IsInForm w) where
       get_or-map (λ (t : IndexedRows). t.rows) w.tables k no_table [] within
       ∙ sym (ap rows_in (ap (slice_get w.tables) back ∙ slice_get-get_or w.tables k no_table within))
 
-  below_is : stored_below spec (stored_rows (heads_of spec) w.tables) ≡ rows_of w.tables
+  pub below_is : stored_below spec (stored_rows (heads_of spec) w.tables) ≡ rows_of w.tables
   below_is = sym (fill_by_all (λ k. stored_rows (heads_of spec) w.tables (length spec.relations + k)) (rows_of w.tables) (stored_count spec) [] (length-map w.tables (λ (t : IndexedRows). t.rows) ∙ form.count) rows_at)
 
   sources_are : inverse_rows spec (stored_rows (heads_of spec) w.tables) ≡ source_rows spec (rows_of w.tables)

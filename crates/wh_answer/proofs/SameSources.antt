@@ -56,7 +56,7 @@ module _ (spec : Spec) (ts us : List (List Row)) (h : SameStored spec ts us) whe
   folded_alike [] a b k = k
   folded_alike (r ∷ rs) a b k = folded_alike rs (reconstruct_next spec ts a r) (reconstruct_next spec us b r) (next_alike a b r k)
 
-  reconstructed_same : SameTables (reconstructed spec ts) (reconstructed spec us)
+  pub reconstructed_same : SameTables (reconstructed spec ts) (reconstructed spec us)
   reconstructed_same =
       let none = replicate (length spec.relations) [] in
       let long = length-replicate (length spec.relations) [] in

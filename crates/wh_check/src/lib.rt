@@ -1,6 +1,12 @@
 //! A change of the sources: what it takes and brings in the end, and the first constraint that it breaks.
 #![tactic(auto)]
 
-mod change;
+mod broken;
+mod laws;
+mod net;
+mod sources;
 
-pub use change::{changed_sources, effective, first_broken};
+pub use broken::first_broken;
+pub use laws::{broken_goes_by_sets, net_effect_leads_there};
+pub use net::effective;
+pub use sources::changed_sources;

@@ -145,7 +145,7 @@ below_more : (row next : List Value) (rows : List (List Value)) → row_cmp row 
 below_more row next [] l h = tt
 below_more row next (y ∷ rows) l h = (row_cmp_total.trans row next y l h.0, below_more row next rows l h.1)
 
-ascends_is : (rows : List (List Value)) → ascends rows ≡ true → IsAscending rows
+pub ascends_is : (rows : List (List Value)) → ascends rows ≡ true → IsAscending rows
 unfolding IsStrictlySortedBy
 ascends_is [] e = tt
 ascends_is (row ∷ []) e = (tt, tt)

@@ -13,7 +13,7 @@ use Rattle.wh_codec.specs.Body.{IsSpelledDelta, IsSpelledTable}
 use Rattle.wh_schema.specs.declared.spec.Spec.{Spec}
 use Rattle.wh_schema.specs.Legality.{WellFormed}
 use Rattle.wh_schema.specs.Warehouse.{Row, State, numbers, stored}
-use Rattle.wh_store.specs.Image.{applies, apply_to, are_stored_deltas, are_stored_tables, changed_table, changed_tables, first_over, fit_stored, no_delta}
+use Rattle.wh_store.specs.Image.{applies, apply_to, are_stored_deltas, are_stored_tables, changed_table, changed_tables, first_over, fit_stored, no_delta, stored_count}
 use Rattle.wh_laws.proofs.Equality.{has_decides, is_not, is_not_in, row_is_in}
 use Rattle.wh_laws.proofs.Lists.{any_from, every_in, filter_from, filter_in, map_from, map_same}
 use Rattle.wh_laws.proofs.Pieces.{numbers_from}
@@ -26,12 +26,12 @@ use Rattle.wh_fit.proofs.StoredKinds.{stored_count_is, stored_fits}
 
 -- ---- rows that one list has and another lacks
 
-lost_from : (before after : List Row) (x : Row) → Contains (in_order (without before after)) x → Contains before x × (Contains after x → ⊥)
+pub lost_from : (before after : List Row) (x : Row) → Contains (in_order (without before after)) x → Contains before x × (Contains after x → ⊥)
 lost_from before after x k =
     let f = filter_from (λ r. not (has after r)) before x (Contains-from_in_order (without before after) x k) in
     (f.0, is_not (has after x) (has_decides after x) f.1)
 
-lost_in : (before after : List Row) (x : Row) → Contains before x → (Contains after x → ⊥) → Contains (in_order (without before after)) x
+pub lost_in : (before after : List Row) (x : Row) → Contains before x → (Contains after x → ⊥) → Contains (in_order (without before after)) x
 lost_in before after x k missing =
     Contains-in_order (without before after) x (filter_in (λ r. not (has after r)) before x k (is_not_in (has after x) (has_decides after x) missing))
 
@@ -45,7 +45,7 @@ none_has rows others h =
 -- ---- one table
 
 module _ (before after : List Row) where
-  difference_applies : applies before (difference before after) ≡ true
+  pub difference_applies : applies before (difference before after) ≡ true
   difference_applies =
       let d = difference before after in
       and_from (list_all (has before) d.deleted) (not (list_any (has before) d.inserted))
@@ -87,7 +87,7 @@ module _ (before after : List Row) where
 
 -- ---- tables place by place
 
-by_places : (xs : List (List Row)) → map (λ k. get_or xs k []) (numbers (length xs)) ≡ xs
+pub by_places : (xs : List (List Row)) → map (λ k. get_or xs k []) (numbers (length xs)) ≡ xs
 by_places xs = sym (fill_by_all (λ k. get_or xs k []) xs (length xs) [] refl (λ k l. refl))
 
 module _ (before after : List (List Row)) (same : length before ≡ length after) (old : AllByRecursion IsSpelledTable before) (new : AllByRecursion IsSpelledTable after) where
@@ -121,7 +121,7 @@ module _ (before after : List (List Row)) (same : length before ≡ length after
 
 -- ---- stored tables
 
-module _ (spec : Spec) (s t : State) (wf : WellFormed spec) (kd : IsKinded spec) (a : IsStorable spec s) (b : IsStorable spec t) where
+module _ (spec : Spec) (wf : WellFormed spec) (kd : IsKinded spec) where
   spelled_tables : (u : State) → IsStorable spec u → AllByRecursion IsSpelledTable (stored spec u)
   spelled_tables u c =
       let few = none_over (stored spec u) c.under in
@@ -129,12 +129,13 @@ module _ (spec : Spec) (s t : State) (wf : WellFormed spec) (kd : IsKinded spec)
       each_in IsSpelledTable (stored spec u) (λ rows h.
       each_from (λ rows. length rows < 2 ^ 32 → IsSpelledTable rows) (stored spec u) tables rows h (each_from (λ rows. length rows < 2 ^ 32) (stored spec u) few rows h))
 
-  pub changes_stored : AreChangeOf (stored spec s) (stored spec t) × (are_stored_deltas spec (stored spec s) (differences (stored spec s) (stored spec t)) ≡ true)
-  changes_stored =
-      let before = stored spec s in
+  -- as many tables that have a spelling may be changed into what is stored of a state
+  pub change_to : (before : List (List Row)) (t : State) → length before ≡ stored_count spec → AllByRecursion IsSpelledTable before → IsStorable spec t
+      → AreChangeOf before (stored spec t) × (are_stored_deltas spec before (differences before (stored spec t)) ≡ true)
+  change_to before t count spelled b =
       let after = stored spec t in
-      let same : length before ≡ length after = stored_count_is spec s ∙ sym (stored_count_is spec t) in
-      let change = are_change before after same (spelled_tables s a) (spelled_tables t b) in
+      let same : length before ≡ length after = count ∙ sym (stored_count_is spec t) in
+      let change = are_change before after same spelled (spelled_tables t b) in
       let fits : are_stored_tables spec after ≡ true =
       and_from (fit_stored spec after) (not (is_some (first_over after))) (stored_fits spec t wf kd b.fits) (ap (λ o. not (is_some o)) b.under) in
       let deltas = differences before after in (
@@ -142,3 +143,7 @@ module _ (spec : Spec) (s t : State) (wf : WellFormed spec) (kd : IsKinded spec)
         and_from (apply_to before deltas) (are_stored_tables spec (changed_tables before deltas)) change.apply
             (subst (λ tables. are_stored_tables spec tables ≡ true) (sym change.lead) fits),
       )
+
+  pub changes_stored : (s t : State) → IsStorable spec s → IsStorable spec t
+      → AreChangeOf (stored spec s) (stored spec t) × (are_stored_deltas spec (stored spec s) (differences (stored spec s) (stored spec t)) ≡ true)
+  changes_stored s t a b = change_to (stored spec s) t (stored_count_is spec s) (spelled_tables s a) b

@@ -1,5 +1,5 @@
 -- What holds of each element, by membership and by recursion on the list.
-use Rattle.std.proofs.Common.{◌≡◌, ◌<◌, Bool, true, false, not, cond, List, [], ◌∷◌, filter, length, Some, None, Contains, sym, ◌∙◌, ap, subst, inl, inr, arith}
+use Rattle.std.proofs.Common.{◌≡◌, ℕ, zero, suc, ◌<◌, Bool, true, false, not, cond, List, [], ◌∷◌, filter, length, get_or, Some, None, Contains, sym, ◌∙◌, ap, subst, inl, inr, arith}
 use Rattle.std.specs.List.{AllByRecursion, list_any, position, position_or_len}
 use Rattle.std.proofs.lemmas.Bool.{cases_Bool, true≢false, lt-ltb}
 use Rattle.wh_base.specs.RowSet.{first_seen_by}
@@ -13,6 +13,11 @@ module _ {X : Type 0} where
   pub each_from : (P : X → Type 0) (xs : List X) → AllByRecursion P xs → (x : X) → Contains xs x → P x
   each_from P [] h x k = absurd (Contains-nil x k)
   each_from P (y ∷ xs) h x k = elim (Contains-cases y x xs k) [ inl e ↦ subst P e h.0 | inr m ↦ each_from P xs h.1 x m ]
+
+  pub each_at : (P : X → Type 0) (d : X) → P d → (xs : List X) → AllByRecursion P xs → (k : ℕ) → P (get_or xs k d)
+  each_at P d e [] h k = e
+  each_at P d e (x ∷ xs) h zero = h.0
+  each_at P d e (x ∷ xs) h (suc k) = each_at P d e xs h.1 k
 
   pub only : (x y : X) → Contains (x ∷ []) y → x ≡ y
   only x y k = elim (Contains-cases x y [] k) [ inl e ↦ e | inr m ↦ absurd (Contains-nil y m) ]

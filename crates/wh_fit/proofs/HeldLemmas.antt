@@ -3,70 +3,35 @@ use Rattle.std.proofs.Common.{◌≡◌, ◌⊎◌, ℕ, zero, suc, ◌+◌, ◌
 use Rattle.std.specs.Prelude.{is_some, nat_lt}
 use Rattle.std.specs.List.{AllByRecursion}
 use Rattle.std.proofs.lemmas.Bool.{and_parts}
-use Rattle.std.proofs.lemmas.List.Elements.{All-from_recursion, recursion_from_All, All-take, All-drop, Contains-append_cases}
+use Rattle.std.proofs.lemmas.List.Elements.{All-from_recursion, recursion_from_All, All-take, All-drop}
 use Rattle.std.specs.Str.{bytes_eq}
-use Rattle.wh_base.specs.declared.value.Delta.{Delta}
-use Rattle.wh_base.specs.RowSet.{has}
-use Rattle.wh_base.specs.Tables.{without}
-use Rattle.wh_base.proofs.InOrder.{Contains-from_in_order}
+use Rattle.wh_base.specs.RowSet.{IsAscending}
 use Rattle.wh_codec.specs.declared.frame.Frame.{Frame}
 use Rattle.wh_codec.specs.declared.frame.Frame.TheVariants.{Snapshot, Change}
-use Rattle.wh_codec.specs.Body.{IsSpelled, IsSpelledDelta, IsSpelledRow, IsSpelledTable, IsSpelledValue}
+use Rattle.wh_codec.specs.Body.{IsSpelled, IsSpelledTable}
 use Rattle.wh_codec.specs.Reading.{frame_of}
 use Rattle.wh_codec.proofs.Fields.{IsBytes}
 use Rattle.wh_codec.proofs.Frames.{body_is}
 use Rattle.wh_journal.specs.File.{Walk, frames_of, is_empty, is_open, judged, length_in, span, walk, walk_on, walk_within}
 use Rattle.wh_plan.specs.Plan.{too_many}
 use Rattle.wh_schema.specs.declared.spec.Spec.{Spec}
-use Rattle.wh_schema.specs.Warehouse.{Row, State, numbers, stored}
+use Rattle.wh_schema.specs.Warehouse.{Row, State, stored}
 use Rattle.wh_spec_text.specs.declared.fault.SpecTextFault.{SpecTextFault}
 use Rattle.wh_spec_text.specs.Printed.{spec_text}
 use Rattle.wh_spec_text.specs.SpecTexts.{spec_of_text}
 use Rattle.wh_spec_text.specs.Textual.{IsTextualSpec}
 use Rattle.wh_spec_text.proofs.TextualLemmas.{answers_are_textual}
 use Rattle.wh_store.specs.declared.warehouse.Which.TheVariants.{First, Second}
-use Rattle.wh_store.specs.Image.{Active, Image, accepted_from, after_first, after_frame, apply_to, are_stored_deltas, are_stored_tables, both, changed_table, changed_tables, end_behind, equal_generations, file_image, first_over, fit_stored, holding, image_of_bodies, image_of_frames, later_of, no_delta, printed_spec, replayed, replayed_on, snapshot_over, some_image}
+use Rattle.wh_store.specs.Image.{Active, Image, accepted_from, after_first, after_frame, apply_to, are_stored_deltas, are_stored_tables, both, changed_tables, end_behind, equal_generations, file_image, first_over, fit_stored, holding, image_of_bodies, image_of_frames, later_of, printed_spec, replayed, replayed_on, snapshot_over, some_image}
 use Rattle.wh_store.specs.Warehouse.{Stands}
-use Rattle.wh_laws.proofs.Lists.{filter_from, map_from}
+use Rattle.wh_store.proofs.ChangedTables.{changed_ascend}
+use Rattle.wh_store.proofs.SpelledTables.{changed_spelled, tables_spelled}
 use Rattle.wh_fit.specs.Differences.{IsStorable}
 use Rattle.wh_fit.specs.Fit.{AreSpelledRows}
 use Rattle.wh_fit.specs.Held.{AreBytes, IsFittingImage}
 use Rattle.wh_fit.proofs.Each.{each_from, each_in}
 use Rattle.wh_fit.proofs.Sources.{sources_fit, sources_spelled}
 use Rattle.wh_fit.proofs.TextSpecs.{found}
-
--- ---- spelled rows
-
-abbrev Values : Row → Type 0
-Values = AllByRecursion IsSpelledValue
-
-rows_of_table : (rows : List Row) → IsSpelledTable rows → AreSpelledRows rows
-rows_of_table rows is = each_in Values rows (λ x k. (each_from IsSpelledRow rows is.rows x k).values)
-
-rows_at : (tables : List (List Row)) → AllByRecursion AreSpelledRows tables → (k : ℕ) → AreSpelledRows (get_or tables k [])
-rows_at [] h k = tt
-rows_at (rows ∷ tables) h zero = h.0
-rows_at (rows ∷ tables) h (suc k) = rows_at tables h.1 k
-
-inserted_at : (deltas : List Delta) → AllByRecursion IsSpelledDelta deltas → (k : ℕ) → AreSpelledRows (get_or deltas k no_delta).inserted
-inserted_at [] h k = tt
-inserted_at (d ∷ deltas) h zero = rows_of_table d.inserted h.0.inserted
-inserted_at (d ∷ deltas) h (suc k) = inserted_at deltas h.1 k
-
-changed_rows : (rows : List Row) (d : Delta) → AreSpelledRows rows → AreSpelledRows d.inserted → AreSpelledRows (changed_table rows d)
-changed_rows rows d old new =
-    each_in Values (changed_table rows d) (λ x k.
-    elim (Contains-append_cases (without rows d.deleted) d.inserted x (Contains-from_in_order (without rows d.deleted ++ d.inserted) x k)) [
-      | inl a ↦ each_from Values rows old x (filter_from (λ r. not (has d.deleted r)) rows x a).0
-      | inr a ↦ each_from Values d.inserted new x a
-    ])
-
-pub changed_spelled : (tables : List (List Row)) (deltas : List Delta) → AllByRecursion AreSpelledRows tables → AllByRecursion IsSpelledDelta deltas → AllByRecursion AreSpelledRows (changed_tables tables deltas)
-changed_spelled tables deltas old new =
-    let at : ℕ → List Row = λ k. changed_table (get_or tables k []) (get_or deltas k no_delta) in
-    each_in AreSpelledRows (changed_tables tables deltas) (λ rows h.
-    let k = map_from at (numbers (length tables)) rows h in
-    subst AreSpelledRows k.2 (changed_rows (get_or tables k.0 []) (get_or deltas k.0 no_delta) (rows_at tables old k.0) (inserted_at deltas new k.0)))
 
 -- ---- bytes
 
@@ -133,9 +98,6 @@ accepted_is text (Err fault) spec e = absurd cc
 printed_textual : (text : List ℕ) (spec : Spec) → printed_spec text ≡ Some spec → IsTextualSpec spec
 printed_textual text spec e = answers_are_textual text spec (accepted_is text (spec_of_text text) spec e)
 
-tables_spelled : (tables : List (List Row)) → AllByRecursion IsSpelledTable tables → AllByRecursion AreSpelledRows tables
-tables_spelled tables h = each_in AreSpelledRows tables (λ rows k. rows_of_table rows (each_from IsSpelledTable tables h rows k))
-
 snapshot_fits : (generation seq : ℕ) (tables : List (List Row)) (end : ℕ) (text : List ℕ) (o : Option Spec) (i : Image) → printed_spec text ≡ o → AllByRecursion IsSpelledTable tables
     → snapshot_over generation seq tables end o ≡ Some i → IsFittingImage i
 snapshot_fits generation seq tables end text None i is h e = absurd cc
@@ -143,7 +105,13 @@ snapshot_fits generation seq tables end text (Some spec) i is h e =
     let made : Image = record { generation = generation; seq = seq; spec = spec; tables = tables; end = end } in
     let w = when_some (are_stored_tables spec tables) made i e in
     let p = stored_parts spec tables w.0 in
-    let fits : IsFittingImage made = record { textual = printed_textual text spec is; fits = p.0; under = p.1; spelled = tables_spelled tables h } in
+    let fits : IsFittingImage made = record {
+      textual = printed_textual text spec is;
+      fits = p.0;
+      ascending = each_in IsAscending tables (λ rows k. (each_from IsSpelledTable tables h rows k).ascending);
+      under = p.1;
+      spelled = tables_spelled tables h;
+    } in
     subst IsFittingImage w.1 fits
 
 first_fits : (end : ℕ) (o : Option Frame) (i : Image) → ((frame : Frame) → o ≡ Some frame → IsSpelled frame) → after_first end o ≡ Some i → IsFittingImage i
@@ -163,7 +131,13 @@ next_fits i end (Some (Change seq deltas)) j fits h e =
     let q = and_parts (apply_to i.tables deltas) (are_stored_tables i.spec tables) p.1 in
     let t = stored_parts i.spec tables q.1 in
     let deltas_spelled = (h (Change seq deltas) refl).deltas in
-    let fit : IsFittingImage made = record { textual = fits.textual; fits = t.0; under = t.1; spelled = changed_spelled i.tables deltas fits.spelled deltas_spelled } in
+    let fit : IsFittingImage made = record {
+      textual = fits.textual;
+      fits = t.0;
+      ascending = changed_ascend i.tables deltas;
+      under = t.1;
+      spelled = changed_spelled i.tables deltas fits.spelled deltas_spelled;
+    } in
     subst IsFittingImage w.1 fit
 
 step_on : (more : Image → Result Image ℕ) (at : ℕ) (o : Option Image) (j : Image) → replayed_on more at o ≡ Ok j → (i : Image) × (o ≡ Some i) × (more i ≡ Ok j)

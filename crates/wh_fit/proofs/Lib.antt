@@ -4,13 +4,17 @@ pub mod DifferenceLemmas
 pub mod DumpLemmas
 pub mod Each
 pub mod Example
+pub mod GivenBack
 pub mod HeldLemmas
 pub mod JoinedKinds
 pub mod KindLemmas
 pub mod LineLemmas
+pub mod PieceValues
+pub mod Refreshes
 pub mod SourceValues
 pub mod Sources
 pub mod Loads
 pub mod SpelledTables
 pub mod StoredKinds
+pub mod TableValues
 pub mod TextSpecs

@@ -33,7 +33,7 @@ use Rattle.wh_fit.proofs.KindLemmas.{fits_from, width_is}
 use Rattle.wh_fit.proofs.StoredKinds.{view_row_fits}
 
 -- rows of the same kinds are alike
-alike_from : (attrs : List Attr) (rows : List Row) → ((x : Row) → Contains rows x → row_kinds x ≡ kinds attrs) → AreAlike rows
+pub alike_from : (attrs : List Attr) (rows : List Row) → ((x : Row) → Contains rows x → row_kinds x ≡ kinds attrs) → AreAlike rows
 alike_from attrs [] h = tt
 alike_from attrs (row ∷ rows) h =
     each_in (λ other. row_kinds other ≡ row_kinds row) rows (λ x k. h x (Contains-there row x rows k) ∙ sym (h row (Contains-here row rows)))

@@ -14,6 +14,7 @@ use Rattle.wh_csv.specs.Dump.{dump_of}
 use Rattle.wh_schema.specs.declared.spec.Spec.{Spec}
 use Rattle.wh_schema.specs.Changes.{Line, apply}
 use Rattle.wh_schema.specs.Legality.{WellFormed, IsState}
+use Rattle.wh_schema.specs.Reconstruction.{reconstructed}
 use Rattle.wh_schema.specs.Rules.{IsWithinLimits}
 use Rattle.wh_schema.specs.Warehouse.{Row, State, columns_of, relation_at, view_at, view_table, sources_of, complement, stored}
 use Rattle.wh_spec_text.specs.SpecTexts.{spec_of_text}
@@ -89,6 +90,12 @@ abbrev pub SourcesFit : Type 0
 SourcesFit =
     (text : List ℕ) (spec : Spec) (s : State) → spec_of_text text ≡ Ok spec → IsState spec s
     → (fit_stored spec (stored spec s) ≡ true → IsFittingState spec s) × (AllByRecursion AreSpelledRows (stored spec s) → IsSpelledState spec s)
+
+-- what tables that fit give back fits, and its values have a spelling where those of the tables have one
+abbrev pub ReconstructedFits : Type 0
+ReconstructedFits =
+    (text : List ℕ) (spec : Spec) (tables : List (List Row)) → spec_of_text text ≡ Ok spec → fit_stored spec tables ≡ true
+    → IsFittingState spec (reconstructed spec tables) × (AllByRecursion AreSpelledRows tables → IsSpelledState spec (reconstructed spec tables))
 
 -- tables of which none is over the limit of rows are of fewer than 2^32 rows
 abbrev pub UnderIsCounted : Type 0

@@ -2,6 +2,7 @@
 use Rattle.std.specs.Prelude.{◌≡◌, ℕ, ◌<◌, ◌^◌, true, List, None, Some, Ok}
 use Rattle.std.specs.List.{AllByRecursion}
 use Rattle.wh_base.specs.declared.value.Delta.{Delta}
+use Rattle.wh_base.specs.RowSet.{IsAscending}
 use Rattle.wh_codec.specs.Body.{IsSpelledDelta}
 use Rattle.wh_fit.specs.Differences.{IsStorable}
 use Rattle.wh_fit.specs.Fit.{AreSpelledRows}
@@ -21,10 +22,11 @@ ChangedAreSpelled =
     (tables : List (List Row)) (deltas : List Delta) → AllByRecursion AreSpelledRows tables → AllByRecursion IsSpelledDelta deltas
     → AllByRecursion AreSpelledRows (changed_tables tables deltas)
 
--- An image with a textual specification and tables that fit it, none over the limit of rows, whose values have a spelling.
+-- An image with a textual specification and tables that fit it, in row order, none over the limit of rows, whose values have a spelling.
 pub record IsFittingImage (i : Image) : Type 0 where
   pub textual : IsTextualSpec i.spec
   pub fits : fit_stored i.spec i.tables ≡ true
+  pub ascending : AllByRecursion IsAscending i.tables
   pub under : first_over i.tables ≡ None
   pub spelled : AllByRecursion AreSpelledRows i.tables
 

@@ -2,9 +2,9 @@
 //! the clause of a function that does nothing.
 #![tactic(auto)]
 
-ghost use Rattle.wh_fit.specs.Differences.{DifferencesApply, ChangesAreStored};
+ghost use Rattle.wh_fit.specs.Differences.{DifferencesApply, ChangesAreStored, RefreshesAreStored};
 ghost use Rattle.wh_fit.specs.Example.{ShopFits};
-ghost use Rattle.wh_fit.specs.Fit.{FittingIsState, ValuesAreCarried, ComplementsAreRows, TextsAreWellFormed, StoredFits, StoredIsSpelled, PartsAreSpelled, SourcesFit, UnderIsCounted, DumpsFit, DumpsAreLoaded, ChangesFit, LinesKeepFit, BodiesAreRead};
+ghost use Rattle.wh_fit.specs.Fit.{FittingIsState, ValuesAreCarried, ComplementsAreRows, TextsAreWellFormed, StoredFits, StoredIsSpelled, PartsAreSpelled, SourcesFit, ReconstructedFits, UnderIsCounted, DumpsFit, DumpsAreLoaded, ChangesFit, LinesKeepFit, BodiesAreRead};
 ghost use Rattle.wh_fit.specs.Held.{ChangedAreSpelled, ImagesFit, StandingFits};
 
 /// A state whose rows have the kinds of their attributes has rows of the right widths.
@@ -47,6 +47,11 @@ pub fn sources_fit()
     ensures { SourcesFit }
 {}
 
+/// What tables give back has the kinds and the spelling that they have.
+pub fn reconstructed_fits()
+    ensures { ReconstructedFits }
+{}
+
 /// Tables of which none is over the limit have few enough rows for a spelling.
 pub fn under_is_counted()
     ensures { UnderIsCounted }
@@ -85,6 +90,11 @@ pub fn differences_apply()
 /// The differences between what is stored of two states are a change of the stored tables.
 pub fn changes_are_stored()
     ensures { ChangesAreStored }
+{}
+
+/// Lines make of what tables give back a state into whose stored tables these tables may be changed.
+pub fn refreshes_are_stored()
+    ensures { RefreshesAreStored }
 {}
 
 /// Tables keep their spelling through deltas that have one.

@@ -184,3 +184,14 @@ fold-append f b (x ∷ xs) ys = fold-append f (f b x) xs ys
 
 pub fold-more : {A B : Type 0} (f : B → A → B) (b : B) (xs : List A) (k : ℕ) (d : A) → k < length xs → fold f b (take (k + 1) xs) ≡ f (fold f b (take k xs)) (get_or xs k d)
 fold-more f b xs k d l = ap (fold f b) (take_more xs k d l) ∙ fold-append f b (take k xs) (get_or xs k d ∷ [])
+
+-- the first tables of distinct rows
+distinct-taken : (n : ℕ) (tables : List (List Row)) → ((i : ℕ) → AreDistinct (get_or tables i [])) → (i : ℕ) → AreDistinct (get_or (take n tables) i [])
+distinct-taken zero [] h i = none-is-set.distinct
+distinct-taken zero (x ∷ xs) h i = none-is-set.distinct
+distinct-taken (suc n) [] h i = none-is-set.distinct
+distinct-taken (suc n) (x ∷ xs) h zero = h zero
+distinct-taken (suc n) (x ∷ xs) h (suc i) = distinct-taken n xs (λ m. h (suc m)) i
+
+pub distinct-first : (n : ℕ) (made tables : List (List Row)) → made ≡ take n tables → ((i : ℕ) → AreDistinct (get_or tables i [])) → (i : ℕ) → AreDistinct (get_or made i [])
+distinct-first n made tables e h i = subst (λ (ts : List (List Row)). AreDistinct (get_or ts i [])) (sym e) (distinct-taken n tables h i)

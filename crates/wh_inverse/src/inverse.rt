@@ -1,15 +1,18 @@
-ghost use Rattle.std.specs.Prelude.{◌≡◌, ℕ, ◌≤◌, ◌<◌, ◌+◌, length, IsTrue};
+ghost use Rattle.std.specs.Prelude.{◌≡◌, ℕ, ◌≤◌, ◌<◌, ◌+◌, length, IsTrue, IfOk};
 ghost use Rattle.wh_covers.specs.Covers.{IsNumbered};
-ghost use Rattle.wh_inverse.specs.Inverse.{IsBelow, have_keys, is_source, inverse_rows};
+ghost use Rattle.wh_eval.specs.Lists.{HasDistinctRows};
+ghost use Rattle.wh_inverse.specs.Inverse.{IsBelow, have_keys, is_source, inverse_rows, stored_below};
 ghost use Rattle.wh_plan.specs.Plan.{IsPlan};
 ghost use Rattle.wh_schema.specs.Heads.{heads_of as heads_of_spec};
 ghost use Rattle.wh_schema.specs.Legality.{WellFormed};
+ghost use Rattle.wh_schema.specs.Reconstruction.{reconstructed};
+ghost use Rattle.wh_schema.specs.Warehouse.{SameState};
 
 use crate::planned::is_relation;
-use crate::relations::relation_rows;
+use crate::relations::{all_relations, relation_rows};
 use crate::walk::relation_where;
 use std::alloc::Global;
-use wh_base::{Heads, Names, NoMemory, Row, Rows};
+use wh_base::{Heads, Names, NoMemory, Row, Rows, State};
 use wh_eval::Base;
 use wh_plan::Plan;
 use wh_steps::{Ledger, Steps};
@@ -41,6 +44,21 @@ impl<'a, B: Base> Inverse<'a, B> {
         ensures below { result.below.now ≡ below.entry.now }
     {
         Inverse { plan, below }
+    }
+
+    /// The rows of each relation, each row once. Each relation is computed once.
+    pub fn relations<L: Ledger>(
+        &self,
+        alloc: Global,
+        steps: &mut Steps<L>,
+    ) -> Result<State, NoMemory>
+        ensures count { IfOk result (λ s. length s ≡ length self.now.plan.now.spec.relations) }
+        ensures distinct { IfOk result HasDistinctRows }
+        ensures rows { IfOk result (λ s. SameState self.now.plan.now.spec s (reconstructed self.now.plan.now.spec (stored_below self.now.plan.now.spec (B.rows_at self.now.below.now)))) }
+        ensures probes { steps.old.probes ≤ steps.new.probes }
+        ensures scans { steps.old.scans ≤ steps.new.scans }
+    {
+        all_relations(alloc, self, steps)
     }
 }
 

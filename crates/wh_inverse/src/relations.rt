@@ -1,12 +1,12 @@
 //! The relations, computed one after another.
-ghost use Rattle.std.specs.Prelude.{◌≡◌, ◌≤◌, ◌<◌, [], set, replicate, length, get_or, IfOk};
+ghost use Rattle.std.specs.Prelude.{◌≡◌, ◌≤◌, ◌<◌, [], set, replicate, take, length, get_or, IfOk};
 ghost use Rattle.wh_base.specs.RowSet.{IsSetOf};
 ghost use Rattle.wh_covers.specs.Covers.{IsNumbered};
 ghost use Rattle.wh_eval.specs.Lists.{HasDistinctRows};
 ghost use Rattle.wh_inverse.specs.Filled.{table_count, first_rows, step_rows, AreFilled};
 ghost use Rattle.wh_inverse.specs.Inverse.{stored_below};
 ghost use Rattle.wh_schema.specs.Reconstruction.{reconstruct_next, reconstructed};
-ghost use Rattle.wh_schema.specs.Warehouse.{State as SourceState};
+ghost use Rattle.wh_schema.specs.Warehouse.{State as SourceState, SameState};
 
 use crate::inverse::Inverse;
 use crate::planned::inverse_of;
@@ -148,4 +148,28 @@ pub(crate) fn relation_rows<B: Base, L: Ledger>(
 {
     let tables = all_tables(alloc, inverse, steps)?;
     Ok(taken_out(tables, rel))
+}
+
+fn first_of(tables: State, count: usize) -> State
+    ensures { result ≡ take count tables }
+{
+    let mut items = tables.into_vec();
+    items.truncate(count);
+    State::from_vec(items)
+}
+
+/// The rows of each relation, each row once.
+pub(crate) fn all_relations<B: Base, L: Ledger>(
+    alloc: Global,
+    inverse: &Inverse<'_, B>,
+    steps: &mut Steps<L>,
+) -> Result<State, NoMemory>
+    ensures count { IfOk result (λ s. length s ≡ length inverse.now.plan.now.spec.relations) }
+    ensures distinct { IfOk result HasDistinctRows }
+    ensures rows { IfOk result (λ s. SameState inverse.now.plan.now.spec s (reconstructed inverse.now.plan.now.spec (stored_below inverse.now.plan.now.spec (B.rows_at inverse.now.below.now)))) }
+    ensures probes { steps.old.probes ≤ steps.new.probes }
+    ensures scans { steps.old.scans ≤ steps.new.scans }
+{
+    let tables = all_tables(alloc, inverse, steps)?;
+    Ok(first_of(tables, inverse.plan.spec.relations.len()))
 }

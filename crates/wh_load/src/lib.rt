@@ -10,5 +10,6 @@ mod repeats;
 mod source;
 mod views;
 
+pub use broken::first_broken;
 pub use fault::LoadFault;
 pub use load::load_rows;

@@ -50,7 +50,7 @@ some_row [] row there = absurd (true≢false (sym there))
 some_row (x ∷ rows) row there = omega arith
 
 -- distinct rows that are all among others are no more than these
-no_more : (gone rows : List Row) → AreDistinct gone → ((row : Row) → has gone row ≡ true → has rows row ≡ true) → length gone ≤ length rows
+pub no_more : (gone rows : List Row) → AreDistinct gone → ((row : Row) → has gone row ≡ true → has rows row ≡ true) → length gone ≤ length rows
 no_more [] rows distinct inside = omega arith
 no_more (x ∷ gone) rows distinct inside =
     let rest = filter (λ y. not (row_eq x y)) rows in
@@ -70,7 +70,7 @@ no_more (x ∷ gone) rows distinct inside =
         ∙ and_from (has rows row) (not (row_eq x row)) (inside row (or_second (row_eq row x) (has gone row) there)) (other x row gone lacks there (row_eq x row) refl)
 
 -- rows without distinct ones of them
-fewer : (rows gone : List Row) → AreDistinct gone → list_all (has rows) gone ≡ true → length (without rows gone) + length gone ≤ length rows
+pub fewer : (rows gone : List Row) → AreDistinct gone → list_all (has rows) gone ≡ true → length (without rows gone) + length gone ≤ length rows
 fewer rows gone distinct present =
     let kept = length-filter_both (has gone) (λ r. not (has gone r)) (λ r. refl) rows in
     let taken = no_more gone (filter (has gone) rows) distinct
@@ -134,7 +134,7 @@ at_number : (p : ℕ → Bool) (n k : ℕ) → k < n → list_all p (numbers n) 
 at_number p n k below all = every_from p (numbers n) all k (k, omega (arith, below, length-range_with_len 0 n), get_or-range_with_len 0 n k k below ∙ (omega arith))
 
 -- where no place passes first, none passes
-none_passes : {X : Type 0} (p : X → Bool) (xs : List X) (k : ℕ) (d : X) → position p xs ≡ None → k < length xs → p (get_or xs k d) ≡ false
+pub none_passes : {X : Type 0} (p : X → Bool) (xs : List X) (k : ℕ) (d : X) → position p xs ≡ None → k < length xs → p (get_or xs k d) ≡ false
 none_passes p xs k d none below = fails_before_first p xs k d (past (position_or_len p xs) (length xs) (ltb (position_or_len p xs) (length xs)) refl none below)
   where
     past : (i n : ℕ) (b : Bool) → ltb i n ≡ b → ◌≡◌ {A = Option ℕ} (cond (ltb i n) (Some i) None) None → k < n → k < i
@@ -150,6 +150,14 @@ none_first p xs d fails =
     rw (all, le-ltb (length xs) (length xs) (omega arith)) refl
 
 -- ---- all tables
+
+-- a table is within the limit after its delta where none is over it
+pub within : (w : Warehouse) (deltas : List Delta) (k : ℕ) → first_over_after w.tables deltas ≡ None → k < length w.tables → rows_after w.tables deltas k ≤ row_limit
+within w deltas k room below =
+    let test = λ (m : ℕ). ltb row_limit (rows_after w.tables deltas m) in
+    let fails = none_passes test (numbers (length w.tables)) k 0 room (omega (arith, below, length-range_with_len 0 (length w.tables))) in
+    let at : get_or (numbers (length w.tables)) k 0 ≡ k = get_or-range_with_len 0 (length w.tables) k 0 below ∙ (omega arith) in
+    ltb-false row_limit (rows_after w.tables deltas k) (ap test (sym at) ∙ fails)
 
 pub may_follow : (i : Image) (w : Warehouse) (deltas : List Delta) → IsWarehouseOf i w → are_stored_tables i.spec i.tables ≡ true → CanApplyAll w.tables deltas
     → ((k : ℕ) → k < stored_count i.spec → fits_stored i.spec k (get_or deltas k no_delta).inserted ≡ true) → first_over_after w.tables deltas ≡ None → are_stored_deltas i.spec i.tables deltas ≡ true
@@ -183,10 +191,3 @@ may_follow i w deltas is stored can fit room =
   where
     fits_row : Spec → ℕ → Row → Bool
     fits_row spec k row = pointwise kind_eq (row_kinds row) (kinds (stored_attrs spec k))
-
-    within : (w : Warehouse) (deltas : List Delta) (k : ℕ) → first_over_after w.tables deltas ≡ None → k < length w.tables → rows_after w.tables deltas k ≤ row_limit
-    within w deltas k room below =
-        let test = λ (m : ℕ). ltb row_limit (rows_after w.tables deltas m) in
-        let fails = none_passes test (numbers (length w.tables)) k 0 room (omega (arith, below, length-range_with_len 0 (length w.tables))) in
-        let at : get_or (numbers (length w.tables)) k 0 ≡ k = get_or-range_with_len 0 (length w.tables) k 0 below ∙ (omega arith) in
-        ltb-false row_limit (rows_after w.tables deltas k) (ap test (sym at) ∙ fails)

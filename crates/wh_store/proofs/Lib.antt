@@ -5,10 +5,13 @@ mod CommitLemmas
 pub mod FirstByte
 mod FirstRow
 pub mod FrameLemmas
+mod FrameOrder
+pub mod HeldValues
 pub mod Loaded
 pub mod OpenLemmas
 pub mod Searches
 mod SoundFiles
+pub mod SpelledTables
 pub mod StoredLemmas
 pub mod TableLemmas
 mod TableSteps

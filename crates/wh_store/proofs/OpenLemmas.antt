@@ -1,7 +1,7 @@
 -- What the frames of a file come to, step by step.
 use Rattle.std.proofs.Common.{◌≡◌, ◌⊎◌, inl, inr, ℕ, suc, ◌+◌, ◌<◌, ◌^◌, Bool, true, false, not, ◌&&◌, if◌then◌else◌, List, [], ◌∷◌, ◌++◌, length, map, get_or, drop, Option, Some, None, is_some, IfSome, IfOk, IfErr, Result, Ok, Err, refl, sym, ap, subst, ◌∙◌, arith, true≢false}
 use Rattle.std.specs.List.{AllByRecursion}
-use Rattle.std.specs.Option.{option_map}
+use Rattle.std.specs.Option.{ForSome, option_map}
 use Rattle.std.proofs.lemmas.List.{drop_more, drop_all}
 use Rattle.wh_base.specs.RoomyText.{RoomyText}
 use Rattle.wh_base.specs.declared.value.Value.{Value}
@@ -13,7 +13,7 @@ use Rattle.wh_codec.specs.Reading.{frame_of}
 use Rattle.wh_journal.specs.declared.found.Found.{Found}
 use Rattle.wh_journal.specs.declared.found.Found.TheVariants.{Empty, Frames}
 use Rattle.wh_journal.specs.File.{is_empty, frames_of, span, walk, judged}
-use Rattle.wh_journal.specs.Journal.{bodies_of, IsFound}
+use Rattle.wh_journal.specs.Journal.{bodies_of, IsFound, IsJournalOf}
 use Rattle.wh_schema.specs.declared.spec.Spec.{Spec}
 use Rattle.wh_schema.specs.Warehouse.{Row}
 use Rattle.wh_store.specs.declared.fault.StoreFault.{StoreFault}
@@ -25,10 +25,12 @@ use Rattle.wh_store.specs.declared.warehouse.Place.{Place}
 use Rattle.wh_store.specs.declared.warehouse.Warehouse.{Warehouse}
 use Rattle.wh_store.specs.declared.warehouse.Which.{Which}
 use Rattle.wh_store.specs.declared.warehouse.Which.TheVariants.{First, Second}
+use Rattle.wh_store.specs.Commit.{active_of}
 use Rattle.wh_store.specs.Image.{Image, Active, Holding, end_behind, are_stored_tables, snapshot_over, printed_spec, after_first, after_frame, replayed, replayed_on, some_image, image_of_bodies, image_of_frames, file_image, both, holding}
 use Rattle.wh_store.specs.Opening.{image_of, IsSound, found_of, HasLength, IsStateOf, file_state, IsChosen, IsNoRefusal}
 use Rattle.wh_store.specs.Store.{IsOpen}
 use Rattle.wh_store.specs.Warehouse.{IsWarehouseOf, IsPlaceOf, file_in}
+use Rattle.wh_store.proofs.SoundFiles.{file_sound}
 
 -- ---- a snapshot
 
@@ -126,3 +128,30 @@ pub both_told : (x y z : Option (List ℕ)) (P Q : List ℕ → Type 0) (R : Lis
 both_told None y z P Q R same step p q = tt
 both_told (Some a) None z P Q R same step p q = tt
 both_told (Some a) (Some b) z P Q R same step p q = step a b p (subst (λ (o : Option (List ℕ)). IfSome o Q) same q)
+
+-- ---- the journal of the file that counts
+
+held_journal : (file : List ℕ) (r : Replay) → IsStateOf file (state.Held r) → IsJournalOf file r.journal
+held_journal file r is = record { end = (file_sound file (image_of r) is.image).0; length = sym is.length }
+
+pub journal_of : (first second : FileState) (found : Holding) (which : Which) (r : Replay) (result : Result (Warehouse × Place) StoreFault) → IsChosen first second found (Ok (which, r))
+    → IfOk result (λ (o : Warehouse × Place). o.1 ≡ record { which = which; generation = r.generation; journal = r.journal; live = true })
+    → IfOk result (λ (o : Warehouse × Place). (file : List ℕ) → IsStateOf file (file_state o.1.which first second) → IsJournalOf file o.1.journal)
+journal_of first second found which r (Ok (w, p)) chosen place = λ file is.
+    subst (IsJournalOf file) (sym (ap (λ (q : Place). q.journal) place))
+    (held_journal file r (subst (IsStateOf file) (ap (λ (q : Place). file_state q.which first second) place ∙ chosen.1) is))
+journal_of first second found which r (Err e) chosen place = tt
+
+-- of two contents, that of the file that counts, where it is told
+which_told : {D : Type 0} (content : D → Option (List ℕ)) (first second : D) (x y : Option (List ℕ)) (in_first in_second : FileState) (which : Which) (R : List ℕ → Type 0) → content first ≡ x → content second ≡ y
+    → IfSome x (λ (file : List ℕ). IsStateOf file in_first) → IfSome y (λ (file : List ℕ). IsStateOf file in_second)
+    → ((file : List ℕ) → IsStateOf file (file_state which in_first in_second) → R file) → ForSome (content (active_of which first second)) R
+which_told content first second x y in_first in_second First R e f p q step = λ file is. step file (subst (λ (o : Option (List ℕ)). IfSome o (λ (c : List ℕ). IsStateOf c in_first)) (sym e ∙ is) p)
+which_told content first second x y in_first in_second Second R e f p q step = λ file is. step file (subst (λ (o : Option (List ℕ)). IfSome o (λ (c : List ℕ). IsStateOf c in_second)) (sym f ∙ is) q)
+
+pub journal_told : {D : Type 0} (content : D → Option (List ℕ)) (first second : D) (x y : Option (List ℕ)) (in_first in_second : FileState) (result : Result (Warehouse × Place) StoreFault) → content first ≡ x → content second ≡ y
+    → IfSome x (λ (file : List ℕ). IsStateOf file in_first) → IfSome y (λ (file : List ℕ). IsStateOf file in_second)
+    → IfOk result (λ (o : Warehouse × Place). (file : List ℕ) → IsStateOf file (file_state o.1.which in_first in_second) → IsJournalOf file o.1.journal)
+    → IfOk result (λ (o : Warehouse × Place). ForSome (content (active_of o.1.which first second)) (λ (file : List ℕ). IsJournalOf file o.1.journal))
+journal_told content first second x y in_first in_second (Ok (w, p)) e f a b h = which_told content first second x y in_first in_second p.which (λ (file : List ℕ). IsJournalOf file p.journal) e f a b h
+journal_told content first second x y in_first in_second (Err fault) e f a b h = tt

@@ -9,7 +9,7 @@ use Rattle.std.proofs.lemmas.Slice.Zip.{length-zip, get_or-zip}
 use Rattle.std.proofs.lemmas.List.Quantifiers.{position-Some}
 use Rattle.std.proofs.lemmas.List.Sums.{prefix_len-le-length, position_or_len_is, fails_before_first, passes_at_first}
 use Rattle.wh_base.specs.declared.value.Delta.{Delta}
-use Rattle.wh_base.specs.RowSet.{SameRows}
+use Rattle.wh_base.specs.RowSet.{AreDistinct, SameRows}
 use Rattle.wh_base.specs.Tables.{without}
 use Rattle.wh_table.specs.Table.{IndexedRows, CanApply}
 use Rattle.wh_schema.specs.Warehouse.{Row, numbers}
@@ -17,9 +17,10 @@ use Rattle.wh_store.specs.Commit.{AreKept, AreChanged, CanApplyAll, HasRoom, fir
 use Rattle.wh_store.specs.Image.{no_delta, row_limit}
 use Rattle.wh_store.specs.Warehouse.{no_table, table_at}
 
--- what a table has after its delta
+-- what a table has after its delta, each row once
 pub record IsChanged (old : IndexedRows) (delta : Delta) (new : IndexedRows) : Type 0 where
   pub rows : SameRows new.rows (without old.rows delta.deleted ++ delta.inserted)
+  pub distinct : AreDistinct new.rows
   pub width : new.width ≡ old.width
   pub indexes : new.indexes ≡ old.indexes
 
@@ -58,6 +59,7 @@ pub changed_all : (old : List IndexedRows) (deltas : List Delta) (new : List Ind
 changed_all old deltas new all = record {
   count = all.count;
   rows = λ k below. (all.done k below).rows;
+  distinct = λ k below. (all.done k below).distinct;
   widths = λ k. ⊎_elim (λ below. (all.done k below).width) (λ above. ap (λ (t : IndexedRows). t.width) (all.rest k above)) (cases_lt k (length old));
   indexes = λ k. ⊎_elim (λ below. (all.done k below).indexes) (λ above. ap (λ (t : IndexedRows). t.indexes) (all.rest k above)) (cases_lt k (length old));
 }

@@ -2,7 +2,7 @@
 use Rattle.std.specs.Prelude.{◌≡◌, ◌⊎◌, ℕ, ◌+◌, ◌-◌, ◌^◌, ◌<◌, ◌≤◌, nat_lt, Bool, true, List, ◌++◌, length, get_or, Option, None, Some, Result, Ok, Err}
 use Rattle.std.specs.List.{position, AllByRecursion}
 use Rattle.wh_base.specs.declared.value.Delta.{Delta}
-use Rattle.wh_base.specs.RowSet.{SameRows}
+use Rattle.wh_base.specs.RowSet.{AreDistinct, SameRows}
 use Rattle.wh_base.specs.Tables.{without}
 use Rattle.wh_codec.specs.declared.frame.Frame.TheVariants.{Change}
 use Rattle.wh_codec.specs.Body.{IsSpelledDelta, frame_bytes}
@@ -66,10 +66,11 @@ pub record AreKept (old new : List IndexedRows) : Type 0 where
   pub indexes : (k : ℕ) → (table_at new k).indexes ≡ (table_at old k).indexes
   pub room : (k : ℕ) → (table_at old k).spare ≤ (table_at new k).spare
 
--- the tables have the rows that the deltas make of them
+-- the tables have the rows that the deltas make of them, each once
 pub record AreChanged (old : List IndexedRows) (deltas : List Delta) (new : List IndexedRows) : Type 0 where
   pub count : length new ≡ length old
   pub rows : (k : ℕ) → k < length old → SameRows (table_at new k).rows (without (table_at old k).rows (get_or deltas k no_delta).deleted ++ (get_or deltas k no_delta).inserted)
+  pub distinct : (k : ℕ) → k < length old → AreDistinct (table_at new k).rows
   pub widths : (k : ℕ) → (table_at new k).width ≡ (table_at old k).width
   pub indexes : (k : ℕ) → (table_at new k).indexes ≡ (table_at old k).indexes
 

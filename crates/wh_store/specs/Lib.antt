@@ -1,5 +1,6 @@
 pub mod Commit
 pub mod Creation
+pub mod Held
 pub mod Image
 pub mod Opening
 pub mod Store

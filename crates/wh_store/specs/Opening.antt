@@ -6,7 +6,8 @@ use Rattle.wh_base.specs.declared.value.Attr.{Attr}
 use Rattle.wh_base.specs.declared.value.Delta.{Delta}
 use Rattle.wh_base.specs.declared.head.Head.{Head}
 use Rattle.wh_base.specs.Heads.{attrs_at}
-use Rattle.wh_base.specs.RowSet.{IsAscending, SameRows}
+use Rattle.wh_base.specs.RowSet.{AreDistinct, IsAscending, SameRows}
+use Rattle.wh_codec.specs.Body.{IsSpelledValue}
 use Rattle.wh_plan.specs.declared.plan.Plan.{Plan}
 use Rattle.wh_plan.specs.Plan.{IsPlan}
 use Rattle.wh_schema.specs.declared.spec.Spec.{Spec}
@@ -23,7 +24,7 @@ use Rattle.wh_store.specs.declared.replay.FileState.{FileState}
 use Rattle.wh_store.specs.declared.replay.FileState.TheVariants as state
 use Rattle.wh_store.specs.declared.warehouse.Which.{Which}
 use Rattle.wh_store.specs.declared.warehouse.Which.TheVariants.{First, Second}
-use Rattle.wh_store.specs.Image.{Image, Active, Holding, file_image, fit_stored, fit_attrs, applies, no_delta}
+use Rattle.wh_store.specs.Image.{Image, Active, Holding, file_image, fit_stored, fit_attrs, first_over, applies, no_delta}
 use Rattle.wh_store.specs.Warehouse.{table_at}
 use Rattle.wh_table.specs.Table.{IndexedRows}
 
@@ -49,9 +50,14 @@ stored_heads spec = map (view_head spec) spec.views ++ map complement_head spec.
 abbrev pub fit_heads : List Head → List (List Row) → Bool
 fit_heads stored tables = (length tables == length stored) && list_all (λ k. fit_attrs (attrs_at stored k) (get_or tables k [])) (numbers (length stored))
 
--- a table with these rows, of a width and with indexed sets
+-- each value of each row has a spelling
+abbrev pub AreSpelledTables : List (List Row) → Type 0
+AreSpelledTables = AllByRecursion (AllByRecursion (AllByRecursion IsSpelledValue))
+
+-- a table with these rows, each once, of a width and with indexed sets
 pub record IsTableOf (width : ℕ) (sets : List (List ℕ)) (rows : List Row) (t : IndexedRows) : Type 0 where
   pub rows_same : SameRows t.rows rows
+  pub distinct : AreDistinct t.rows
   pub width_is : t.width ≡ width
   pub indexes_are : t.indexes ≡ sets
 
@@ -66,13 +72,16 @@ pub record AreTablesOf (plan : Plan) (stored : List Head) (rows : List (List Row
 abbrev pub image_of : Replay → Image
 image_of r = record { generation = r.generation; seq = r.seq; spec = r.plan.spec; tables = r.tables; end = r.journal.end }
 
--- The plan is that of a textual specification, and the tables are its stored ones, in order.
+-- The plan is that of a textual specification, and the tables are its stored ones, in order, with values that have a
+-- spelling and with few enough rows.
 pub record IsSound (r : Replay) : Type 0 where
   pub plan : IsPlan r.plan
   pub textual : IsTextualSpec r.plan.spec
   pub stored : r.stored ≡ stored_heads r.plan.spec
   pub fits : fit_stored r.plan.spec r.tables ≡ true
   pub ascending : AllByRecursion IsAscending r.tables
+  pub spelled : AreSpelledTables r.tables
+  pub few : first_over r.tables ≡ None
 
 -- what was read of a file, as what it holds
 abbrev pub found_of : FileState → Result (Option Image) ℕ

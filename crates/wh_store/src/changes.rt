@@ -1,7 +1,10 @@
 // What a change does to all tables.
-ghost use Rattle.std.specs.Prelude.{◌≡◌, ◌+◌, ◌-◌, nat_lt, length, vec_len, IfOk, OnOk};
+ghost use Rattle.std.specs.Prelude.{◌≡◌, ◌+◌, ◌-◌, ◌≤◌, ◌++◌, nat_lt, length, vec_len, IfOk, OnOk};
+ghost use Rattle.wh_base.specs.RowSet.{AreDistinct, SameRows};
+ghost use Rattle.wh_base.specs.Tables.{without};
 ghost use Rattle.wh_store.specs.Commit.{CanApplyAll, AreKept, AreChanged, HasRoom, first_over_after};
 ghost use Rattle.wh_store.specs.Image.{row_limit};
+ghost use Rattle.wh_table.specs.Table.{CanApply};
 
 use crate::tables::ROW_LIMIT;
 use std::alloc::Global;
@@ -43,13 +46,27 @@ pub(crate) fn prepare_all(
     prepared
 }
 
+/// Makes a change of a table, for which there is room, and answers how many rows the table has then.
+pub(crate) fn apply(table: &mut Table, change: Prepared) -> usize
+    requires fits { CanApply table.old.rows change }
+    requires room { length change.inserted ≤ table.old.spare }
+    ensures count { result ≡ length table.new.rows }
+    ensures rows { SameRows table.new.rows (without table.old.rows change.deleted ++ change.inserted) }
+    ensures distinct { AreDistinct table.new.rows }
+    ensures width { table.new.width ≡ table.old.width }
+    ensures indexes { table.new.indexes ≡ table.old.indexes }
+{
+    table.apply(change);
+    table.len()
+}
+
 fn apply_each(tables: &mut Vec<Table>, prepared: Vec<Prepared>)
     requires fits { CanApplyAll tables.old.items prepared.items }
     requires room { HasRoom tables.old.items prepared.items }
     ensures { AreChanged tables.old.items prepared.items tables.new.items }
 {
     for (table, change) in prepared.into_iter().enumerate() {
-        tables[table].apply(change);
+        apply(&mut tables[table], change);
     }
 }
 

@@ -13,6 +13,7 @@ ghost use Rattle.wh_spec_text.specs.Textual.{IsTextualSpec};
 ghost use Rattle.wh_store.specs.Creation.{tables_in, IsTooLong, IsRefusedLoad, IsKeptOrAlone};
 ghost use Rattle.wh_store.specs.Image.{fit_stored, first_over};
 ghost use Rattle.wh_store.specs.Store.{IsCreated, IsLoaded, IsEmptyOrLoaded, loaded_body, loaded_file, is_too_large, are_empty, is_disk_fault, UnlessDiskFault, Refuses};
+ghost use Rattle.wh_store.specs.Warehouse.{HoldsValues};
 
 use crate::emptiness::both_empty;
 use crate::fault::StoreFault;
@@ -167,6 +168,7 @@ pub fn create<D: Disk>(
     requires spelled { AllByRecursion (AllByRecursion IsSpelledRow) rows }
     ensures answer { IfSome (D.content first.old) (λ a. IfSome (D.content second.old) (λ b. IsCreated plan.spec rows a b result)) }
     ensures made { IfOk result (IsLoaded plan.spec rows) }
+    ensures values { IfOk result (λ made. HoldsValues made.0) }
     ensures file { OnOk result (D.content first.new ≡ option_map (λ _. loaded_file plan.spec rows) (D.content first.old)) }
     ensures kept { Refuses result (D.content first.new ≡ D.content first.old) }
     ensures durable { IsSettled (D.content first.old) (D.images first.old) → UnlessDiskFault result (IsSettled (D.content first.new) (D.images first.new)) }

@@ -1,11 +1,14 @@
 ghost use Rattle.std.specs.Prelude.{◌≡◌, ◌+◌, ◌≤◌, ℕ, List, false, IfOk, IfErr, IfSome, Ok, Some, None, length, true};
 ghost use Rattle.wh_io.specs.Causes.{IsCounted, IsCountedPair};
 ghost use Rattle.wh_io.specs.Crash.{IsSettled, LeavesOnly};
+ghost use Rattle.std.specs.Option.{ForSome};
+ghost use Rattle.wh_journal.specs.Journal.{IsJournalOf};
+ghost use Rattle.wh_store.specs.Commit.{active_of};
 ghost use Rattle.wh_store.specs.Image.{both};
-ghost use Rattle.wh_store.specs.Opening.{IsSound, IsSoundState, IsStateOf, IsNoRefusal, found_of, image_of, IsChosen};
+ghost use Rattle.wh_store.specs.Opening.{IsSound, IsSoundState, IsStateOf, IsNoRefusal, file_state, found_of, image_of, IsChosen};
 ghost use Rattle.wh_store.specs.declared.replay.FileState.TheVariants as state;
 ghost use Rattle.wh_store.specs.Store.{IsOpen, is_disk_fault, UnlessDiskFault};
-ghost use Rattle.wh_store.specs.Warehouse.{IsInForm, IsWarehouseOf};
+ghost use Rattle.wh_store.specs.Warehouse.{HoldsValues, IsInForm, IsWarehouseOf};
 
 use crate::fault::StoreFault;
 use crate::replay::{FileState, Replay, state_in};
@@ -107,6 +110,7 @@ fn chosen(first: FileState, second: FileState) -> Result<(Which, Replay), StoreF
 fn opened(alloc: Global, which: Which, state: Replay) -> Result<(Warehouse, Place), StoreFault>
     requires { IsSound state }
     ensures warehouse { IfOk result (λ opened. IsWarehouseOf (image_of state) opened.0) }
+    ensures values { IfOk result (λ opened. HoldsValues opened.0) }
     ensures place { IfOk result (λ opened. opened.1 ≡ record { which = which; generation = state.generation; journal = state.journal; live = true }) }
     ensures fault { IfErr result IsNoRefusal }
     ensures no_disk { is_disk_fault result ≡ false }
@@ -139,6 +143,9 @@ fn outcome(
     requires second { IsSoundState second }
     ensures answer { (a b : List ℕ) → IsStateOf a first → IsStateOf b second → IsOpen a b result }
     ensures form { IfOk result (λ opened. IsInForm opened.0) }
+    ensures values { IfOk result (λ opened. HoldsValues opened.0) }
+    ensures live { IfOk result (λ opened. opened.1.live ≡ true) }
+    ensures journal { IfOk result (λ opened. (file : List ℕ) → IsStateOf file (file_state opened.1.which first second) → IsJournalOf file opened.1.journal) }
     ensures no_disk { is_disk_fault result ≡ false }
 {
     match chosen(first, second) {
@@ -156,6 +163,9 @@ pub fn open_store<D: Disk>(
 ) -> Result<(Warehouse, Place), StoreFault>
     ensures answer { IfSome (D.content first.old) (λ a. IfSome (D.content second.old) (λ b. IsOpen a b result)) }
     ensures form { IfOk result (λ opened. IsInForm opened.0) }
+    ensures values { IfOk result (λ opened. HoldsValues opened.0) }
+    ensures live { IfOk result (λ opened. opened.1.live ≡ true) }
+    ensures journal { IfOk result (λ opened. ForSome (D.content (active_of opened.1.which first.new second.new)) (λ file. IsJournalOf file opened.1.journal)) }
     ensures first_same { D.content first.new ≡ D.content first.old }
     ensures second_same { D.content second.new ≡ D.content second.old }
     ensures first_durable { UnlessDiskFault result (IsSettled (D.content first.new) (D.images first.new)) }

@@ -9,7 +9,7 @@ ghost use Rattle.wh_base.specs.Tables.{without};
 ghost use Rattle.wh_codec.specs.Body.{IsSpelledDelta};
 ghost use Rattle.wh_expr.specs.Typing.{kind_eq};
 ghost use Rattle.wh_store.specs.Image.{fit_attrs, fit_stored, first_over, are_stored_tables, applies, changed_table, changed_tables, are_stored_deltas};
-ghost use Rattle.wh_store.specs.Opening.{stored_heads, fit_heads, takes, all_take};
+ghost use Rattle.wh_store.specs.Opening.{stored_heads, fit_heads, takes, all_take, AreSpelledTables};
 
 use std::alloc::Global;
 use wh_base::{
@@ -229,10 +229,13 @@ pub(crate) fn next_tables(
     requires stored { stored.now ≡ stored_heads spec.now }
     requires fits { fit_stored spec.now tables ≡ true }
     requires ascending { AllByRecursion IsAscending tables }
+    requires values { AreSpelledTables tables }
     requires spelled { AllByRecursion IsSpelledDelta deltas.now }
     ensures tables { IfOk result (λ next. next ≡ (if are_stored_deltas spec.now tables deltas.now then Some (changed_tables tables deltas.now) else None)) }
     ensures fits { IfOk result (λ next. IfSome next (λ t. fit_stored spec.now t ≡ true)) }
     ensures ascending { IfOk result (λ next. IfSome next (AllByRecursion IsAscending)) }
+    ensures values { IfOk result (λ next. IfSome next AreSpelledTables) }
+    ensures few { IfOk result (λ next. IfSome next (λ t. first_over t ≡ None)) }
 {
     if !all_take(stored, tables.as_slice(), deltas.as_slice()) {
         return Ok(None);

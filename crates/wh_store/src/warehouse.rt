@@ -1,13 +1,14 @@
-ghost use Rattle.std.specs.Prelude.{◌≡◌, [], All, IfOk, get_or, length, true};
+ghost use Rattle.std.specs.Prelude.{◌≡◌, [], All, IfOk, None, get_or, length, true};
 ghost use Rattle.std.specs.List.{AllByRecursion};
 ghost use Rattle.wh_base.specs.RowSet.{AreDistinct, SameRows, IsAscending};
 ghost use Rattle.wh_plan.specs.Plan.{IsPlan};
 ghost use Rattle.wh_spec_text.specs.Textual.{IsTextualSpec};
-ghost use Rattle.wh_store.specs.Image.{fit_stored};
-ghost use Rattle.wh_store.specs.Opening.{stored_heads, AreTablesOf};
-ghost use Rattle.wh_store.specs.Warehouse.{IsInForm, HasRows};
+ghost use Rattle.wh_store.specs.Image.{fit_stored, first_over};
+ghost use Rattle.wh_store.specs.Opening.{stored_heads, AreSpelledTables, AreTablesOf};
+ghost use Rattle.wh_store.specs.Warehouse.{HoldsValues, IsInForm, HasRows};
 ghost use Rattle.wh_table.specs.Table.{IsColumnSet};
 
+use crate::changes::apply;
 use crate::tables::attrs_at;
 use std::alloc::Global;
 use wh_base::{
@@ -65,6 +66,7 @@ fn table_of(alloc: Global, width: usize, indexes: ColumnSets, rows: Rows) -> Res
     requires indexes { All (IsColumnSet width) indexes }
     requires distinct { AreDistinct rows }
     ensures rows { IfOk result (λ table. SameRows table.rows rows) }
+    ensures distinct { IfOk result (λ table. AreDistinct table.rows) }
     ensures width { IfOk result (λ table. table.width ≡ width) }
     ensures indexes { IfOk result (λ table. table.indexes ≡ indexes) }
 {
@@ -78,7 +80,7 @@ fn table_of(alloc: Global, width: usize, indexes: ColumnSets, rows: Rows) -> Res
         inserted: rows,
     };
     let prepared = table.prepare(alloc, change)?;
-    table.apply(prepared);
+    apply(&mut table, prepared);
     Ok(table)
 }
 
@@ -116,7 +118,10 @@ pub(crate) fn warehouse_of(
     requires stored { stored.now ≡ stored_heads plan.spec }
     requires fits { fit_stored plan.spec rows ≡ true }
     requires ascending { AllByRecursion IsAscending rows }
+    requires spelled { AreSpelledTables rows }
+    requires few { first_over rows ≡ None }
     ensures form { IfOk result IsInForm }
+    ensures values { IfOk result HoldsValues }
     ensures plan { IfOk result (λ warehouse. warehouse.plan ≡ plan) }
     ensures rows { IfOk result (HasRows plan.spec rows) }
     ensures seq { IfOk result (λ warehouse. warehouse.seq ≡ seq) }

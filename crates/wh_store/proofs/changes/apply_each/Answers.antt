@@ -27,8 +27,8 @@ loop-table-preserved c =
     record {
       can = search rules;
       finite = search rules;
-      changed = changed_by (length c.loop-table.yielded) (length (c.loop-table.yielded ++ (c.in-Some.table, c.in-Some.change) ∷ [])) c.args.tables.now.items c.args.prepared.items c.loop-table.tables.items c.in-Some.table c.in-Some.change c.index_mut.result.now c.apply.new.self
-          here (length_push c.loop-table.yielded (c.in-Some.table, c.in-Some.change)) c.index_mut.ensures.value c.requires.fits.count c.loop-table.invariant.changed (record { rows = c.apply.ensures.rows; width = c.apply.ensures.width; indexes = c.apply.ensures.indexes });
+      changed = changed_by (length c.loop-table.yielded) (length (c.loop-table.yielded ++ (c.in-Some.table, c.in-Some.change) ∷ [])) c.args.tables.now.items c.args.prepared.items c.loop-table.tables.items c.in-Some.table c.in-Some.change c.index_mut.result.now c.apply.new.table
+          here (length_push c.loop-table.yielded (c.in-Some.table, c.in-Some.change)) c.index_mut.ensures.value c.requires.fits.count c.loop-table.invariant.changed (record { rows = c.apply.ensures.rows; distinct = c.apply.ensures.distinct; width = c.apply.ensures.width; indexes = c.apply.ensures.indexes });
     }
 
 pub returns : goal.returns

@@ -1,7 +1,7 @@
 use Rattle.std.proofs.Common.{ℕ, List}
 use Rattle.wh_io.proofs.Moments.{leaves_map, leaves_then, goes_on, started}
 use Rattle.wh_store.specs.Opening.{IsStateOf}
-use Rattle.wh_store.proofs.OpenLemmas.{both_told}
+use Rattle.wh_store.proofs.OpenLemmas.{both_told, journal_told}
 use Rattle.wh_store.proofs.opening.open_store.Goals as goal
 
 pub returns-clause-answer : goal.returns-clause-answer
@@ -14,3 +14,7 @@ returns-clause-second_moments g c =
     leaves_then g.D.Disk.moment g.D.Disk.images_since _ _ _ images
     (goes_on g.D.Disk.images g.D.Disk.moment g.D.Disk.images_since _ _ _ images (started g.D.Disk.images g.D.Disk.moment g.D.Disk.images_since c.args.second.now images (g.met.D.Disk.only_now c.args.second.now)) c.sync.ensures.time c.sync.ensures.crash)
     (leaves_map g.D.Disk.moment g.D.Disk.images_since _ _ _ images c.sync.ensures.crash c.read_state-2.ensures.any_moment)
+
+pub returns-clause-journal : goal.returns-clause-journal
+returns-clause-journal g c =
+    journal_told g.D.Disk.content _ _ _ _ c.in_ok-in_first.in_first c.in_ok-in_second.in_second c.outcome.result c.in_ok-in_first.ensures.same c.in_ok-in_second.ensures.same c.in_ok-in_first.ensures.state c.in_ok-in_second.ensures.state c.outcome.ensures.journal

@@ -3,8 +3,9 @@ use Rattle.std.specs.List.{AllByRecursion}
 use Rattle.wh_base.specs.declared.value.Value.{Value}
 use Rattle.wh_base.specs.RowSet.{IsAscending}
 use Rattle.wh_store.specs.Image.{fit_stored, first_over, changed_tables}
-use Rattle.wh_store.specs.Opening.{stored_heads, all_take}
+use Rattle.wh_store.specs.Opening.{stored_heads, all_take, AreSpelledTables}
 use Rattle.wh_store.proofs.ChangedTables.{not_stored, stored_by_rows, new_fits, changed_ascend}
+use Rattle.wh_store.proofs.SpelledTables.{changed_spelled}
 use Rattle.wh_store.proofs.tables.next_tables.Goals as goal
 
 abbrev kept : Bool → List (List (List Value)) → Option (List (List (List Value)))
@@ -48,3 +49,10 @@ returns-clause-ascending c =
     let deltas = c.args.deltas.now in
     let is : c.in_ok-tables.tables ≡ changed_tables tables deltas = c.in_ok-tables.ensures ∙ ap (changed_tables tables) c.as_slice-3.ensures in
     subst (AllByRecursion IsAscending) (sym is) (changed_ascend tables deltas)
+
+pub returns-clause-values : goal.returns-clause-values
+returns-clause-values c =
+    let tables = c.args.tables in
+    let deltas = c.args.deltas.now in
+    let is : c.in_ok-tables.tables ≡ changed_tables tables deltas = c.in_ok-tables.ensures ∙ ap (changed_tables tables) c.as_slice-3.ensures in
+    subst AreSpelledTables (sym is) (changed_spelled tables deltas c.requires.values c.requires.spelled)

@@ -43,6 +43,7 @@ loop-table_rows-preserved c =
     let kn = c.len-k.ensures ∙ count in
     let here : IsTableOf (length (attrs_at stored n)) (get_or plan.indexes n []) (get_or rows n []) t = record {
       rows_same = subst (SameRows t.rows) (turn.1 []) c.in_ok-table_of.ensures.rows;
+      distinct = c.in_ok-table_of.ensures.distinct;
       width_is = c.in_ok-table_of.ensures.width ∙ ap length (c.attrs_at.ensures ∙ ap (attrs_at stored) kn);
       indexes_are = c.in_ok-table_of.ensures.indexes ∙ c.in_ok-indexes.ensures ∙ ap (λ (j : ℕ). get_or plan.indexes j []) kn;
     } in

@@ -1,0 +1,3 @@
+pub mod BrokenLemmas
+pub mod HeldLemmas
+pub mod NetLemmas
