@@ -211,7 +211,7 @@ module _ {D : Type 0} (content : D → Option (List ℕ)) (images : D → List �
         moves_here moves =
             moves_then active.which Reached first_old first_mid first_new second_old second_mid second_new m.moves
             (moves_map active.which (IsEitherState m.now t.active) Reached first_mid first_new second_mid second_new either_reached
-                (subst (λ (x : Which). Moves content moment images_since x (IsEitherState m.now t.active) first_mid first_new second_mid second_new) m.which_is moves))
+            (subst (λ (x : Which). Moves content moment images_since x (IsEitherState m.now t.active) first_mid first_new second_mid second_new) m.which_is moves))
 
         abbrev TookFile : Result Status Stop → Type 0
         TookFile finish = TakesFile content images moment images_since name m.now judged first_mid first_new second_mid second_new w_new p_new middle after finish

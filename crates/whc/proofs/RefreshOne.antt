@@ -112,9 +112,9 @@ module _ {D : Type 0} (content : D → Option (List ℕ)) (images : D → List �
           let same : other_of active.which stands.a stands.b ≡ other = other_bytes active.which other told in
           started images moment images_since (active_of active.which first second) (λ (c : List ℕ). P (beside active.which c other))
           (λ c left.
-              let bytes : c ≡ active_of active.which stands.a stands.b = settled_active active.which c (only_now (active_of active.which first second) c left) in
-              let state : beside active.which c other ≡ Ok (Some active) = (λ i. beside active.which (bytes i) (sym same i)) ∙ beside_is active.which ∙ stands.matches.holds in
-              subst P (sym state) here);
+          let bytes : c ≡ active_of active.which stands.a stands.b = settled_active active.which c (only_now (active_of active.which first second) c left) in
+          let state : beside active.which c other ≡ Ok (Some active) = (λ i. beside active.which (bytes i) (sym same i)) ∙ beside_is active.which ∙ stands.matches.holds in
+          subst P (sym state) here);
     }
 
     -- the active file moved

@@ -111,15 +111,15 @@ module _ {D : Type 0} (content : D → Option (List ℕ)) (images : D → List �
       crash_by First outcome begins moves = λ c d left_c left_d.
           let same : d ≡ rest.b = rest.settled_second d (second_stays.each d (subst (λ (e : D). images_since e (moment second_old) d) moves.other_same left_d)) in
           let early : LeavesOnly moment images_since first_old first_mid (λ (c : List ℕ). IsReached outcome (holding c rest.b)) =
-              leaves_map moment images_since first_old first_mid (images first_old) (λ (c : List ℕ). IsReached outcome (holding c rest.b))
-              (λ c left. record { j = 0; within = omega arith; is = ap (λ (e : List ℕ). holding e rest.b) (rest.settled_first c left) ∙ begins }) first_stays in
+          leaves_map moment images_since first_old first_mid (images first_old) (λ (c : List ℕ). IsReached outcome (holding c rest.b))
+          (λ c left. record { j = 0; within = omega arith; is = ap (λ (e : List ℕ). holding e rest.b) (rest.settled_first c left) ∙ begins }) first_stays in
           let whole = leaves_then moment images_since first_old first_mid first_new (λ (c : List ℕ). IsReached outcome (holding c rest.b)) early (moves.crash rest.b (second_same ∙ rest.told_second)) in
           subst (λ (e : List ℕ). IsReached outcome (holding c e)) (sym same) (whole.each c left_c)
       crash_by Second outcome begins moves = λ c d left_c left_d.
           let same : c ≡ rest.a = rest.settled_first c (first_stays.each c (subst (λ (e : D). images_since e (moment first_old) c) moves.other_same left_c)) in
           let early : LeavesOnly moment images_since second_old second_mid (λ (d : List ℕ). IsReached outcome (holding rest.a d)) =
-              leaves_map moment images_since second_old second_mid (images second_old) (λ (d : List ℕ). IsReached outcome (holding rest.a d))
-              (λ d left. record { j = 0; within = omega arith; is = ap (λ (e : List ℕ). holding rest.a e) (rest.settled_second d left) ∙ begins }) second_stays in
+          leaves_map moment images_since second_old second_mid (images second_old) (λ (d : List ℕ). IsReached outcome (holding rest.a d))
+          (λ d left. record { j = 0; within = omega arith; is = ap (λ (e : List ℕ). holding rest.a e) (rest.settled_second d left) ∙ begins }) second_stays in
           let whole = leaves_then moment images_since second_old second_mid second_new (λ (d : List ℕ). IsReached outcome (holding rest.a d)) early (moves.crash rest.a (first_same ∙ rest.told_first)) in
           subst (λ (e : List ℕ). IsReached outcome (holding e d)) (sym same) (whole.each d left_d)
 

@@ -41,7 +41,7 @@ accepted_line : (name front : List ℕ) (seq : ℕ) (net : NetChange) (i : Image
 accepted_line name front seq net i lines front_is seq_is source_is stored_is =
     (λ k. line (((front_is k ++ (codes "refresh " ++ decimal (seq_is k))) ++ counts_words (codes ", sources") (source_is k)) ++ counts_words (codes ", stored") (stored_is k)))
     ∙ regroup name (codes ": ") (codes "refresh ") (decimal (i.seq + 1)) (codes ", sources" ++ codes " -") (decimal (deleted_count (source_deltas i lines))) (codes " +") (decimal (inserted_count (source_deltas i lines)))
-        (codes ", stored" ++ codes " -") (decimal (deleted_count (stored_changes i lines))) (decimal (inserted_count (stored_changes i lines))) (10 ∷ [])
+    (codes ", stored" ++ codes " -") (decimal (deleted_count (stored_changes i lines))) (decimal (inserted_count (stored_changes i lines))) (10 ∷ [])
 
 module _ {D : Type 0} (content : D → Option (List ℕ)) (images : D → List ℕ → Type 0) (moment : D → ℕ) (images_since : D → ℕ → List ℕ → Type 0) (first first_new second second_new : D) (w : Warehouse) (p : Place) where
   abbrev Took : List ℕ → Active → Result (List Line) Rejection → Warehouse → Place → Result Report Stop → Type 0
@@ -106,7 +106,7 @@ module _ {D : Type 0} (content : D → Option (List ℕ)) (images : D → List �
   module _ (name : List ℕ) (lines : List Line) (w_new : Warehouse) (p_new : Place) (counts : CountsNow content images moment images_since) (only_now : OnlyNow content images moment images_since)
       (other : other_of p.which first_new second_new ≡ other_of p.which first second)
       (any_moment : IsSettled (content (active_of p.which first second)) (images (active_of p.which first second)) → IfSome (content first) (λ (a : List ℕ). IfSome (content second) (λ (b : List ℕ). (active : Active) → Matches active a b w p
-          → LeavesOnly moment images_since (active_of p.which first second) (active_of p.which first_new second_new) (IsHeldBeforeOrAfter active (stored_changes active.image lines) a b)))) where
+      → LeavesOnly moment images_since (active_of p.which first second) (active_of p.which first_new second_new) (IsHeldBeforeOrAfter active (stored_changes active.image lines) a b)))) where
     module _ (active : Active) (stood : Stood active) where
       settled_now : IsSettled (content (active_of p.which first second)) (images (active_of p.which first second))
       settled_now =
@@ -123,7 +123,7 @@ module _ {D : Type 0} (content : D → Option (List ℕ)) (images : D → List �
 
     module _ (net : NetChange) (answer : (active : Active) (a b : List ℕ) → Matches active a b w p → IsRefreshed active.image lines (Ok net))
         (holds : IfSome (content first) (λ (a : List ℕ). IfSome (content second) (λ (b : List ℕ). IfSome (content first_new) (λ (c : List ℕ). IfSome (content second_new) (λ (d : List ℕ).
-            (active : Active) → Matches active a b w p → Matches (active_with active (stored_changes active.image lines)) c d w_new p_new)))))
+        (active : Active) → Matches active a b w p → Matches (active_with active (stored_changes active.image lines)) c d w_new p_new)))))
         (file : content (active_of p.which first_new second_new) ≡ option_map (λ (file : List ℕ). appended file p.journal.end (change_body (w.seq + 1) net.stored)) (content (active_of p.which first second)))
         (durable : IsSettled (content (active_of p.which first_new second_new)) (images (active_of p.which first_new second_new)))
         (report : Report) (front : List ℕ) (front_is : front ≡ name ++ codes ": ") (status_is : report.status ≡ status.Ok)
@@ -144,7 +144,7 @@ module _ {D : Type 0} (content : D → Option (List ℕ)) (images : D → List �
       matched c d told_c told_d =
           told_two (λ (c d : List ℕ). (active : Active) → Matches active stood.a stood.b w p → Matches (active_with active (stored_changes active.image lines)) c d w_new p_new) (content first_new) (content second_new) c d told_c told_d
           (told_two (λ (a b : List ℕ). IfSome (content first_new) (λ (c : List ℕ). IfSome (content second_new) (λ (d : List ℕ). (active : Active) → Matches active a b w p → Matches (active_with active (stored_changes active.image lines)) c d w_new p_new)))
-              (content first) (content second) stood.a stood.b stood.told_first stood.told_second holds) active stood.matches
+          (content first) (content second) stood.a stood.b stood.told_first stood.told_second holds) active stood.matches
 
       stood_on : StandsAt content images first_new second_new changed w_new p_new
       stood_on =

@@ -10,7 +10,9 @@ ghost use Rattle.whc.specs.RefreshSteps.{IsLastStop, IsReading, IsReady, IsSound
 ghost use Rattle.whc.specs.Steps.{is_disk_fault, is_read_fault, is_usage, is_write_fault};
 
 use crate::inputs::read_file;
-use crate::refresh_line::{Report, accepted, bad_record, over_limit, refused, rejected, roomy_line};
+use crate::refresh_line::{
+    Report, accepted, bad_record, over_limit, refused, rejected, roomy_line,
+};
 use crate::status::Status;
 use crate::stop::Stop;
 use std::alloc::Global;
