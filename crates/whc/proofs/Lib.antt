@@ -10,6 +10,12 @@ pub mod Loads
 pub mod Making
 pub mod Numbered
 pub mod Ready
+pub mod RefreshAll
+pub mod RefreshLines
+pub mod RefreshOne
+pub mod RefreshReads
+pub mod RefreshRun
+pub mod RefreshTaken
 pub mod Shown
 pub mod Shows
 pub mod Stores

@@ -9,6 +9,7 @@ pub mod Load
 pub mod Outcome
 pub mod Plan
 pub mod Refresh
+pub mod RefreshSteps
 pub mod Run
 pub mod Show
 pub mod Steps

@@ -1,5 +1,6 @@
 -- What the command `refresh FILE..` comes to: a line for each change file, in their order, and the store after those that were accepted.
-use Rattle.std.specs.Prelude.{◌≡◌, ℕ, ◌+◌, ◌<◌, nat_lt, if◌then◌else◌, List, [], ◌∷◌, ◌++◌, length, map, get_or, take, sum, Option, None, Some, Result, Ok, Err, OnOk, codes, decimal}
+use Rattle.std.specs.Prelude.{◌≡◌, ℕ, ◌+◌, ◌<◌, nat_lt, if◌then◌else◌, List, [], ◌∷◌, ◌++◌, length, map, get_or, take, Option, None, Some, Result, Ok, Err, OnOk, codes, decimal}
+use Rattle.std.specs.List.{sum_by}
 use Rattle.std.specs.Option.{option_map}
 use Rattle.wh_base.specs.declared.value.Delta.{Delta}
 use Rattle.wh_base.specs.Lines.{line}
@@ -57,9 +58,12 @@ lines_or (Ok lines) = Ok (map as_line lines)
 lines_or (Err (csv_fault.At at cause)) = Err (record_rejection at cause)
 lines_or (Err csv_fault.NoMemory) = Err no_memory
 
+abbrev pub no_file : Rejection
+no_file = record { status = status.NoFile; words = codes "no file" }
+
 -- the lines of a change file: it is held, has at most 268,435,456 bytes, and is in its grammar
 abbrev pub lines_in : Spec → Option (List ℕ) → Result (List Line) Rejection
-lines_in spec None = Err (record { status = status.NoFile; words = codes "no file" })
+lines_in spec None = Err no_file
 lines_in spec (Some bytes) = if nat_lt 268435456 (length bytes) then Err (over_limit (codes "file")) else lines_or (change_of bytes spec)
 
 -- what refuses a change
@@ -87,10 +91,10 @@ accepted held active name = accepted_lines active.image (lines_in active.image.s
 
 -- how many rows are deleted and inserted in all
 abbrev pub deleted_count : List Delta → ℕ
-deleted_count deltas = sum (map (λ (d : Delta). length d.deleted) deltas)
+deleted_count deltas = sum_by (λ (d : Delta). length d.deleted) deltas
 
 abbrev pub inserted_count : List Delta → ℕ
-inserted_count deltas = sum (map (λ (d : Delta). length d.inserted) deltas)
+inserted_count deltas = sum_by (λ (d : Delta). length d.inserted) deltas
 
 -- the number of the change, and the rows of the sources and of the stored tables that left and entered
 abbrev pub refreshed_words : Image → List Line → List ℕ

@@ -1,5 +1,5 @@
 // What a command reads: files, a specification, dumps.
-ghost use Rattle.std.specs.Prelude.{◌≡◌, [], get_or, map, None, Some, IfOk, IfSome, string_bytes};
+ghost use Rattle.std.specs.Prelude.{◌≡◌, [], get_or, map, None, Some, IfErr, IfOk, IfSome, string_bytes};
 ghost use Rattle.std.specs.Option.{option_map};
 ghost use Rattle.wh_base.specs.RowSet.{AreDistinct};
 ghost use Rattle.wh_covers.specs.Covers.{IsNumbered};
@@ -8,6 +8,7 @@ ghost use Rattle.wh_load.specs.Load.{HasDistinctRows};
 ghost use Rattle.wh_plan.specs.Plan.{IsPlan, too_many};
 ghost use Rattle.wh_spec_text.specs.SpecTexts.{spec_of_text};
 ghost use Rattle.whc.specs.Inputs.{and_then, file_of, parsed, planned, spec_in, spec_file, dump_name, dump_in, dump_file, dump_files, IsFromText, IsDumpOf, AreDumpsOf, IsNextDump};
+ghost use Rattle.whc.specs.RefreshSteps.{IsReadStop};
 ghost use Rattle.whc.specs.Words.{pieces_words};
 ghost use Rattle.whc.specs.Steps.{Settles, NamesRead, BlamesFiles, BlamesNone, plan_spec, is_read_fault};
 
@@ -24,9 +25,10 @@ use wh_spec_text::{SpecTextFault, parse_spec};
 const FILE_LIMIT: u64 = 268_435_456;
 
 /// Reads a whole file, or says why not.
-fn read_file<F: Files>(alloc: Global, files: &mut F, name: &str) -> Result<Bytes, Stop>
+pub fn read_file<F: Files>(alloc: Global, files: &mut F, name: &str) -> Result<Bytes, Stop>
     ensures answer { Settles (option_map (λ held. file_of (held name.now) name.now) (F.held files.old)) result }
     ensures names { NamesRead (λ file. file ≡ name.now) result }
+    ensures stops { IfErr result (IsReadStop name.now) }
     ensures same { F.held files.new ≡ F.held files.old }
     ensures blames { BlamesFiles result }
     ensures cause { IsCounted (is_read_fault result) (F.faults files.old) (F.faults files.new) }

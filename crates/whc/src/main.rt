@@ -8,6 +8,8 @@ mod laws;
 mod load;
 mod plan;
 mod refresh;
+mod refresh_file;
+mod refresh_line;
 mod run;
 mod show;
 mod status;

@@ -1,5 +1,5 @@
 // The two files of the store, for the commands that work on them.
-ghost use Rattle.std.specs.Prelude.{◌≡◌, true, false, Ok, Some, None, IfSome, IfOk, OnOk};
+ghost use Rattle.std.specs.Prelude.{◌≡◌, ◌≤◌, ◌+◌, true, false, length, Ok, Some, None, IfSome, IfOk, OnOk};
 ghost use Rattle.std.specs.List.{AllByRecursion};
 ghost use Rattle.std.specs.Option.{option_map};
 ghost use Rattle.wh_base.specs.RowSet.{IsAscending};
@@ -13,6 +13,7 @@ ghost use Rattle.wh_store.specs.Store.{are_empty, loaded_file, IsEmptyOrLoaded};
 ghost use Rattle.wh_store.specs.Warehouse.{IsInForm};
 ghost use Rattle.whc.specs.Ask.{IsNeeded, IsOpeningStop};
 ghost use Rattle.whc.specs.Load.{if_unloaded, IsMade, IsMakingStop};
+ghost use Rattle.whc.specs.RefreshSteps.{IsPlaced, IsReady};
 ghost use Rattle.whc.specs.Steps.{Settles, UnlessDisk, OnStop, is_usage, is_read_fault, is_write_fault, is_disk_fault};
 
 use crate::stop::Stop;
@@ -21,7 +22,7 @@ use std::alloc::Global;
 use wh_base::{Failed, NoMemory, StoredRows};
 use wh_io::Disk;
 use wh_plan::Plan;
-use wh_store::{StoreFault, Warehouse, both_empty, create, open_store};
+use wh_store::{Place, StoreFault, Warehouse, both_empty, create, open_store};
 
 /// Refuses a store that is not empty. It settles what is pending, and changes no byte.
 #[tactic(auto, using(crate::proofs::Making::passes_empty, crate::proofs::Making::stops_loaded, crate::proofs::Making::stops_failed, crate::proofs::Making::empty_looked))]
@@ -110,6 +111,32 @@ pub fn open_needed<D: Disk>(alloc: Global, first: &mut D, second: &mut D) -> Res
 {
     match open_store(alloc, first, second) {
         Ok((warehouse, _)) => Ok(warehouse),
+        Err(fault) => Err(opening_stop(alloc, fault)),
+    }
+}
+
+/// Opens the store that a command needs, with the place where its next change is written. It settles what is pending, and
+/// changes no byte.
+pub fn open_placed<D: Disk>(
+    alloc: Global,
+    first: &mut D,
+    second: &mut D,
+) -> Result<(Warehouse, Place), Stop>
+    ensures answer { IfSome (D.content first.old) (λ a. IfSome (D.content second.old) (λ b. IsPlaced a b result)) }
+    ensures ready { IfOk result (λ opened. IsReady D.content first.new second.new opened.0 opened.1) }
+    ensures first_same { D.content first.new ≡ D.content first.old }
+    ensures second_same { D.content second.new ≡ D.content second.old }
+    ensures first_moments { LeavesOnly D.moment D.images_since first.old first.new (D.images first.old) }
+    ensures second_moments { LeavesOnly D.moment D.images_since second.old second.new (D.images second.old) }
+    ensures first_reads { IfSome (D.content first.old) (λ a. D.reads first.new ≤ D.reads first.old + length a) }
+    ensures second_reads { IfSome (D.content second.old) (λ b. D.reads second.new ≤ D.reads second.old + length b) }
+    ensures read { is_read_fault result ≡ false }
+    ensures write { is_write_fault result ≡ false }
+    ensures usage { is_usage result ≡ false }
+    ensures disk { IsCountedPair (is_disk_fault result) (D.faults first.old) (D.faults first.new) (D.faults second.old) (D.faults second.new) }
+{
+    match open_store(alloc, first, second) {
+        Ok(opened) => Ok(opened),
         Err(fault) => Err(opening_stop(alloc, fault)),
     }
 }
