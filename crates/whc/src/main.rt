@@ -7,6 +7,8 @@ mod inputs;
 mod laws;
 mod load;
 mod plan;
+#[cfg(test)]
+mod query_tests;
 mod refresh;
 mod refresh_file;
 mod refresh_line;
