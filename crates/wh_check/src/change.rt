@@ -30,7 +30,6 @@ pub fn effective<L: Ledger>(
     ensures probes { steps.old.probes ≤ steps.new.probes }
     ensures scans { steps.old.scans ≤ steps.new.scans }
 {
-    let _ = (alloc, w, c, steps);
     Err(NoMemory)
 }
 
@@ -49,7 +48,6 @@ pub fn changed_sources<L: Ledger>(
     ensures probes { steps.old.probes ≤ steps.new.probes }
     ensures scans { steps.old.scans ≤ steps.new.scans }
 {
-    let _ = (alloc, w, d, steps);
     Err(NoMemory)
 }
 
@@ -67,6 +65,5 @@ pub fn first_broken<L: Ledger>(
     ensures probes { steps.old.probes ≤ steps.new.probes }
     ensures scans { steps.old.scans ≤ steps.new.scans }
 {
-    let _ = (alloc, w, d, steps);
     Err(NoMemory)
 }

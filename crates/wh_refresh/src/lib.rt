@@ -2,7 +2,7 @@
 #![tactic(auto)]
 
 mod fault;
-mod refresh;
+mod refreshing;
 
 pub use fault::RefreshFault;
-pub use refresh::refresh;
+pub use refreshing::refresh;

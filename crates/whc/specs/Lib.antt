@@ -3,12 +3,14 @@ pub mod Ask
 pub mod Commands
 pub mod Disks
 pub mod Ends
+pub mod Headline
 pub mod Inputs
 pub mod Laws
 pub mod Load
 pub mod Outcome
 pub mod Plan
 pub mod Refresh
+pub mod RefreshLaws
 pub mod Run
 pub mod Show
 pub mod Steps

@@ -57,9 +57,12 @@ lines_or (Ok lines) = Ok (map as_line lines)
 lines_or (Err (csv_fault.At at cause)) = Err (record_rejection at cause)
 lines_or (Err csv_fault.NoMemory) = Err no_memory
 
+abbrev pub no_file : Rejection
+no_file = record { status = status.NoFile; words = codes "no file" }
+
 -- the lines of a change file: it is held, has at most 268,435,456 bytes, and is in its grammar
 abbrev pub lines_in : Spec → Option (List ℕ) → Result (List Line) Rejection
-lines_in spec None = Err (record { status = status.NoFile; words = codes "no file" })
+lines_in spec None = Err no_file
 lines_in spec (Some bytes) = if nat_lt 268435456 (length bytes) then Err (over_limit (codes "file")) else lines_or (change_of bytes spec)
 
 -- what refuses a change

@@ -35,6 +35,5 @@ pub fn refresh<F: Files, O: Sink, D: Disk, L: Ledger>(
     ensures probes { steps.old.probes ≤ steps.new.probes }
     ensures scans { steps.old.scans ≤ steps.new.scans }
 {
-    let _ = (alloc, names, files, out, first, second, steps);
     Err(Stop::NoMemory)
 }

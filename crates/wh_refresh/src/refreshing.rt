@@ -1,4 +1,4 @@
-ghost use Rattle.std.specs.Prelude.{◌≡◌, ◌+◌, ◌≤◌, ℕ, List, Some, true, map, IfOk, OnOk, OnErr, IfSome};
+ghost use Rattle.std.specs.Prelude.{◌≡◌, ◌+◌, ◌≤◌, ℕ, List, Some, true, false, map, IfOk, OnOk, OnErr, IfSome};
 ghost use Rattle.std.specs.List.{AllByRecursion};
 ghost use Rattle.std.specs.Option.{ForSome, option_map};
 ghost use Rattle.wh_csv.specs.declared.change.Line as csv;
@@ -61,6 +61,5 @@ pub fn refresh<D: Disk, L: Ledger>(
     ensures probes { steps.old.probes ≤ steps.new.probes }
     ensures scans { steps.old.scans ≤ steps.new.scans }
 {
-    let _ = (alloc, w, place, c, first, second, steps);
     Err(RefreshFault::NoMemory)
 }
