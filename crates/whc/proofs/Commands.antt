@@ -2,6 +2,7 @@
 use Rattle.std.proofs.Common.{◌≡◌, ℕ, ◌+◌, ◌-◌, ◌==◌, ◌<◌, ◌≤◌, get_or, take, drop, if◌then◌else◌, Bool, true, false, List, [], ◌∷◌, length, map, Option, None, Some, IfSome, IfOk, Result, Ok, Err, refl, sym, ◌∙◌, ap, subst, arith}
 use Rattle.std.specs.Prelude.{codes}
 use Rattle.std.specs.Str.{bytes_eq}
+use Rattle.std.proofs.lemmas.Bool.{eqb-true}
 use Rattle.std.proofs.lemmas.List.{take_all}
 use Rattle.std.proofs.lemmas.Slice.Eq.{bytes_eq-Decides}
 use Rattle.wh_io.specs.Files.{Held}
@@ -392,7 +393,10 @@ module _ {S : Type 0} (bytes_of : S → List ℕ) where
   pub bare_none : (words : List S) → (length (behind words) == 0) ≡ true → command_of (map bytes_of words) ≡ None
   bare_none [] bare = refl
   bare_none (v ∷ []) bare = refl
-  bare_none (v ∷ f ∷ rest) bare = absurd (cc (ap (λ (l : List S). length l == 0) (behind_all v f rest), bare))
+  bare_none (v ∷ f ∷ rest) bare =
+      let none : length (behind (v ∷ f ∷ rest)) ≡ 0 = eqb-true _ _ bare in
+      let some : length (behind (v ∷ f ∷ rest)) ≡ length (f ∷ rest) = ap (λ (l : List S). length l) (behind_all v f rest) in
+      absurd (omega (arith, none, some))
 
   pub many_none : (words : List S) (d : S) → d ≡ get_or words 0 d → 4 ≤ length words → isnt d (codes "refresh") → command_of (map bytes_of words) ≡ None
   many_none [] d d_is many w = absurd (omega arith)

@@ -66,6 +66,13 @@ counted_words number sources tables =
 abbrev image_at : Spec → Point → ℕ → Image
 image_at spec p generation = record { generation = generation; seq = p.seq; spec = spec; tables = stored spec p.sources; end = p.end }
 
+-- the limits, of a body
+abbrev limits_over : Point → List Line → List ℕ → Result (List Line) Rejection
+limits_over p lines body =
+    if p.seq == 2 ^ 64 - 1 then Err (over_limit (codes "sequence number"))
+    else if is_past_limit p.end body then Err (over_limit (codes "warehouse file"))
+    else Ok lines
+
 limits_by : (spec : Spec) (lines : List Line) (deltas : List Delta) (numbers_end file_ends : Bool)
     → unless_refused spec lines (if numbers_end then Err fault.SequenceLimit else if file_ends then Err fault.FileLimit else Ok deltas)
     ≡ (if numbers_end then Err (over_limit (codes "sequence number")) else if file_ends then Err (over_limit (codes "warehouse file")) else Ok lines)
@@ -111,7 +118,7 @@ module _ (spec : Spec) (p : Point) (generation : ℕ) (legal : LegalState spec p
     by_limits : unless_refused spec lines (numbered image lines) ≡ within_limits spec p lines
     by_limits =
         limits_by spec lines (stored_changes image lines) (p.seq == 2 ^ 64 - 1) (is_past_limit p.end (next_body image lines))
-        ∙ ap (λ (body : List ℕ). if p.seq == 2 ^ 64 - 1 then Err (over_limit (codes "sequence number")) else if is_past_limit p.end body then Err (over_limit (codes "warehouse file")) else Ok lines) body_is
+        ∙ ap (limits_over p lines) body_is
 
     by_rows : (over : Option ℕ) → unless_refused spec lines (sized image lines over) ≡ within_rows spec p lines over
     by_rows None = by_limits
