@@ -347,11 +347,11 @@ module _ {S : Type 0} (bytes_of : S → List ℕ) where
   behind_all : (v f : S) (rest : List S) → behind (v ∷ f ∷ rest) ≡ f ∷ rest
   behind_all v f rest = take_all (length (v ∷ f ∷ rest) - 1) (f ∷ rest) (omega arith)
 
-  pub refresh_words : (words : List S) (verb : S) → verb ≡ get_or words 0 verb → 1 ≤ length words → (length (behind words) == 0) ≡ false → Says verb (codes "refresh")
+  pub refresh_words : (words : List S) (verb : S) → verb ≡ get_or words 0 verb → (length (behind words) == 0) ≡ false → Says verb (codes "refresh")
       → command_of (map bytes_of words) ≡ Some (refresh (map bytes_of (behind words)))
-  refresh_words [] verb is some more named = absurd (omega arith)
-  refresh_words (v ∷ []) verb is some more named = absurd (cc (more))
-  refresh_words (v ∷ f ∷ rest) verb is some more named =
+  refresh_words [] verb is more named = absurd (cc (more))
+  refresh_words (v ∷ []) verb is more named = absurd (cc (more))
+  refresh_words (v ∷ f ∷ rest) verb is more named =
       ap (λ (l : List ℕ). command_of (l ∷ bytes_of f ∷ map bytes_of rest)) (spelled verb v (codes "refresh") is named) ∙ ap (λ (l : List S). Some (refresh (map bytes_of l))) (sym (behind_all v f rest))
 
   abbrev isnt : S → List ℕ → Type 0
