@@ -12,6 +12,8 @@ mod query_tests;
 mod refresh;
 mod refresh_file;
 mod refresh_line;
+#[cfg(test)]
+mod refresh_tests;
 mod run;
 mod show;
 mod status;

@@ -120,15 +120,15 @@ relation Sale(item text, clerk text) key (item, clerk);
 view Sold = Sale join Emp;
 ";
 
-const SPEC_B: &[u8] = b"relation Emp(clerk text, age int) key (clerk);
+pub(crate) const SPEC_B: &[u8] = b"relation Emp(clerk text, age int) key (clerk);
 relation Sale(item text, clerk text) key (item, clerk);
 inclusion Sale(clerk) in Emp(clerk);
 view Sold = Sale join Emp;
 ";
 
-const EMP: &[u8] = b"clerk,age\nMary,23\nJohn,25\nPaula,32\n";
+pub(crate) const EMP: &[u8] = b"clerk,age\nMary,23\nJohn,25\nPaula,32\n";
 
-const SALE: &[u8] = b"item,clerk\nTV,Mary\nVCR,Mary\nPC,John\n";
+pub(crate) const SALE: &[u8] = b"item,clerk\nTV,Mary\nVCR,Mary\nPC,John\n";
 
 pub(crate) const FILES_A: &[(&str, &[u8])] = &[
     ("spec_a.txt", SPEC_A),
