@@ -1,8 +1,13 @@
 // Change files over a store, over devices in memory.
 use crate::status::Status;
-use crate::store_tests::{End, Fails, LOAD_B, LOADED_B, NONE, Row, Story, tell_all};
-use crate::tests::{EMP, SALE, SPEC_B};
+use crate::store_tests::{
+    End, Fails, LOAD_B, LOADED_B, NONE, Row, Store, Story, crashed, ends, tell_all, told,
+};
+use crate::tests::{EMP, SALE, SPEC_B, show};
+use std::alloc::Global;
+use std::process::Abort;
 use std::test::Fail;
+use wh_base::NoMemory;
 use wh_steps::{NoLedger, Steps};
 
 // The dumps of a store of sales, and change files.
@@ -99,11 +104,7 @@ const CHANGES: &[Story<'static>] = &[
                 NONE,
                 End(Status::Ok, "clerk,age\nJohn,25\nPaula,32\n", ""),
             ),
-            Row(
-                SALES,
-                NONE,
-                End(Status::Ok, "item,clerk\nPC,John\n", ""),
-            ),
+            Row(SALES, NONE, End(Status::Ok, "item,clerk\nPC,John\n", "")),
         ],
         left: &[],
     },
@@ -263,7 +264,11 @@ const STORED: &[Story<'static>] = &[
         disk_fails: &[],
         held: HELD_ITEMS,
         rows: &[
-            Row(LOAD, NONE, End(Status::Ok, "loaded: tables 3, rows 4\n", "")),
+            Row(
+                LOAD,
+                NONE,
+                End(Status::Ok, "loaded: tables 3, rows 4\n", ""),
+            ),
             Row(
                 &["refresh", "d.csv"],
                 NONE,
@@ -287,7 +292,11 @@ const STORED: &[Story<'static>] = &[
         disk_fails: &[],
         held: HELD_PICKS,
         rows: &[
-            Row(LOAD, NONE, End(Status::Ok, "loaded: tables 2, rows 0\n", "")),
+            Row(
+                LOAD,
+                NONE,
+                End(Status::Ok, "loaded: tables 2, rows 0\n", ""),
+            ),
             Row(
                 &["refresh", "pick"],
                 NONE,
@@ -297,11 +306,7 @@ const STORED: &[Story<'static>] = &[
                     "",
                 ),
             ),
-            Row(
-                &["dump", "Pick"],
-                NONE,
-                End(Status::Ok, "pick,cat\n", ""),
-            ),
+            Row(&["dump", "Pick"], NONE, End(Status::Ok, "pick,cat\n", "")),
         ],
         left: &[],
     },
@@ -312,7 +317,11 @@ const STORED: &[Story<'static>] = &[
         disk_fails: &[],
         held: HELD_AGES,
         rows: &[
-            Row(LOAD, NONE, End(Status::Ok, "loaded: tables 2, rows 3\n", "")),
+            Row(
+                LOAD,
+                NONE,
+                End(Status::Ok, "loaded: tables 2, rows 3\n", ""),
+            ),
             Row(
                 &["refresh", "zoe"],
                 NONE,
@@ -536,6 +545,16 @@ const SOLD_BY_ZOE: End<'static> = End(
     "",
 );
 
+const THREE: &[&str] = &["refresh", "a.csv", "b.csv", "c.csv"];
+
+const TOOK_TWO: End<'static> = End(
+    Status::Refused,
+    "a.csv: refresh 1, sources -0 +1, stored -0 +1
+b.csv: refused, inclusion 3 Sale(clerk) in Emp(clerk) lacks (Nobody)
+c.csv: refresh 2, sources -0 +1, stored -1 +1\n",
+    "",
+);
+
 const RUNS: &[Story<'static>] = &[
     Story {
         first: b"",
@@ -544,17 +563,7 @@ const RUNS: &[Story<'static>] = &[
         held: HELD_B,
         rows: &[
             LOADED,
-            Row(
-                &["refresh", "a.csv", "b.csv", "c.csv"],
-                NONE,
-                End(
-                    Status::Refused,
-                    "a.csv: refresh 1, sources -0 +1, stored -0 +1
-b.csv: refused, inclusion 3 Sale(clerk) in Emp(clerk) lacks (Nobody)
-c.csv: refresh 2, sources -0 +1, stored -1 +1\n",
-                    "",
-                ),
-            ),
+            Row(THREE, NONE, TOOK_TWO),
             Row(EMPLOYEES, NONE, WITH_ZOE),
             Row(SALES, NONE, SOLD_BY_ZOE),
             Row(
@@ -598,7 +607,9 @@ none: refresh 3, sources -0 +0, stored -0 +0\n",
         rows: &[
             LOADED,
             Row(
-                &["refresh", "sign", "alone", "view", "wide", "word", "bytes", "nix"],
+                &[
+                    "refresh", "sign", "alone", "view", "wide", "word", "bytes", "nix",
+                ],
                 NONE,
                 End(
                     Status::BadInput,
@@ -659,4 +670,102 @@ nix: no file\n",
 fn files_are_taken_in_their_order(rt: HostRuntime) -> Result<(), Fail> {
     let mut counts = Steps::new(&rt, NoLedger);
     Ok(tell_all(&rt, rt.alloc(), &mut counts, RUNS)?)
+}
+
+const AT_FIRST: End<'static> = End(Status::Ok, "clerk,age\nJohn,25\nMary,23\nPaula,32\n", "");
+
+const SOLD_AT_FIRST: End<'static> = End(Status::Ok, "item,clerk\nPC,John\nTV,Mary\nVCR,Mary\n", "");
+
+// The dumps after no change, after the first one, and after the first and the last one.
+const STATES: &[(End<'static>, End<'static>)] = &[
+    (AT_FIRST, SOLD_AT_FIRST),
+    (WITH_ZOE, SOLD_AT_FIRST),
+    (WITH_ZOE, SOLD_BY_ZOE),
+];
+
+fn is_state(
+    rt: &impl Abort,
+    alloc: Global,
+    counts: &mut Steps<NoLedger>,
+    store: &mut Store,
+    state: &(End<'_>, End<'_>),
+) -> Result<bool, NoMemory> {
+    let is_first = ends(rt, alloc, counts, store, &show(EMPLOYEES, &[]), &state.0)?;
+    let is_second = ends(rt, alloc, counts, store, &show(SALES, &[]), &state.1)?;
+    Ok(is_first && is_second)
+}
+
+fn is_reached(
+    rt: &impl Abort,
+    alloc: Global,
+    counts: &mut Steps<NoLedger>,
+    store: &mut Store,
+) -> Result<bool, NoMemory> {
+    for state in STATES {
+        if is_state(rt, alloc, counts, store, state)? {
+            return Ok(true);
+        }
+    }
+    Ok(false)
+}
+
+// A loaded store in which a run of three change files failed since its first disk fails from a call on.
+fn failed_run(
+    rt: &impl Abort,
+    alloc: Global,
+    counts: &mut Steps<NoLedger>,
+    fails: &[u64],
+) -> Result<Store, NoMemory> {
+    let story = Story {
+        first: b"",
+        second: b"",
+        disk_fails: fails,
+        held: HELD_B,
+        rows: &[LOADED],
+        left: &[],
+    };
+    let mut store = told(rt, alloc, counts, 0, &story)?;
+    let is_whole = ends(
+        rt,
+        alloc,
+        counts,
+        &mut store,
+        &show(THREE, HELD_B),
+        &TOOK_TWO,
+    )?;
+    assert!(rt; !is_whole);
+    Ok(store)
+}
+
+fn survives(
+    rt: &impl Abort,
+    alloc: Global,
+    counts: &mut Steps<NoLedger>,
+    fails: &[u64],
+    fill: u8,
+    torn: bool,
+) -> Result<bool, NoMemory> {
+    let failing = failed_run(rt, alloc, counts, fails)?;
+    let mut left = crashed(alloc, &failing, fill, torn)?;
+    is_reached(rt, alloc, counts, &mut left)
+}
+
+// The numbers of the calls of the first disk behind those of the load: three to open it, and four for each change.
+const CALLS: &[u64] = &[12, 13, 14, 15, 16, 17, 18, 19, 20, 21, 22];
+
+#[test]
+fn a_crash_leaves_the_first_changes(rt: HostRuntime) -> Result<(), Fail> {
+    let alloc = rt.alloc();
+    let mut steps = Steps::new(&rt, NoLedger);
+    for passed in 0..CALLS.len() {
+        for fill in [0, 1, 255] {
+            for torn in [true, false] {
+                assert!(rt;
+                    survives(&rt, alloc, &mut steps, &CALLS[passed..], fill, torn)?,
+                    "after {passed} calls"
+                );
+            }
+        }
+    }
+    Ok(())
 }

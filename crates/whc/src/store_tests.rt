@@ -191,7 +191,12 @@ fn failed_load(
 }
 
 // What a crash leaves that fills what was pending.
-fn crashed(alloc: Global, store: &Store, fill: u8, torn: bool) -> Result<Store, NoMemory> {
+pub(crate) fn crashed(
+    alloc: Global,
+    store: &Store,
+    fill: u8,
+    torn: bool,
+) -> Result<Store, NoMemory> {
     Ok(Store {
         first: store.first.after_crash(alloc, fill, torn)?,
         second: store.second.after_crash(alloc, fill, torn)?,
