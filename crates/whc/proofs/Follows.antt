@@ -6,21 +6,22 @@ use Rattle.wh_io.specs.Causes.{IsCounted, IsCountedPair}
 use Rattle.wh_io.specs.Files.{Held}
 use Rattle.wh_io.specs.Sink.{gained, GainsPrefix}
 use Rattle.wh_io.proofs.Gained.{gained_nothing, prefix_whole, prefix_within, prefix_then}
-use Rattle.wh_store.specs.Image.{Holding, holding}
+use Rattle.wh_store.specs.Image.{Active, Holding, holding}
 use Rattle.whc.specs.declared.status.Status.{Status}
 use Rattle.whc.specs.declared.status.Status.TheVariants as status
 use Rattle.whc.specs.declared.stop.Stop.{Stop}
 use Rattle.whc.specs.declared.stop.Stop.TheVariants.{ReadFault, WriteFault, DiskFault, NotLoaded, AlreadyLoaded, Damaged, NoMemory, Usage}
 use Rattle.whc.specs.Ask.{answered, one_text, query_in, relation_in}
-use Rattle.whc.specs.Commands.{Command, show, plan, load, query, dump, is_apart, are_apart, command_of, expected, IsEndStatus}
+use Rattle.whc.specs.Commands.{Command, show, plan, load, refresh, query, dump, is_apart, are_apart, command_of, expected, IsEndStatus}
 use Rattle.whc.specs.Disks.{BothRest, BothLeave}
-use Rattle.whc.specs.Ends.{Ends, EndsBy, EndsWhole, Way, whole, between, in_text, in_commit}
-use Rattle.whc.specs.Laws.{Begins, Reaches, NoFault, ComesTo, IsRefused, IsApart, IsAcknowledged, is_refusal, is_store_status}
+use Rattle.whc.specs.Ends.{Ends, EndsBy, EndsWhole, Way, whole, between, in_text, in_commit, way_of}
+use Rattle.whc.specs.Laws.{Begins, Reaches, NoFault, ComesTo, IsRefused, IsFinished, RefusesBy, IsApart, IsAcknowledged, KeepsAcknowledged, is_refusal, is_store_status}
 use Rattle.whc.specs.declared.show.Shown.{Shown}
 use Rattle.whc.specs.Load.{loading, loads}
 use Rattle.whc.specs.Outcome.{Piece, Outcome, texts, text_at, state_after, last_state, stays}
 use Rattle.whc.specs.Run.{View, Scene, Finishes, EndsFrom, EndsAs, Reports, Answers}
 use Rattle.whc.specs.Plan.{plan_texts}
+use Rattle.whc.specs.Refresh.{opened_active, pieces_over, finish_over, IsRefreshStatus}
 use Rattle.whc.specs.Show.{show_texts}
 use Rattle.whc.specs.Steps.{is_read_fault, is_write_fault, is_disk_fault, is_store_stop}
 use Rattle.whc.specs.Stop.{status_of, unwritten, line_of, WritesLine, IsTold}
@@ -98,20 +99,26 @@ nothing_loaded : (start : Holding) (r : Result Shown Stop) (stop : Stop) → (lo
 nothing_loaded start (Ok s) stop is = absurd (cc (is))
 nothing_loaded start (Err e) stop is = refl
 
+nothing_taken : (held : Held) (names : List (List ℕ)) (opened : Result Active Stop) (stop : Stop) → finish_over held names opened ≡ Err stop → pieces_over held names opened ≡ []
+nothing_taken held names (Ok active) stop is = absurd (cc (is))
+nothing_taken held names (Err e) stop is = refl
+
 pub no_pieces : (command : Command) (held : Held) (start : Holding) (stop : Stop) → (expected command held start).finish ≡ Err stop → (expected command held start).pieces ≡ []
 no_pieces (show spec_name dir) held start stop is = no_rows start (show_texts held spec_name dir) stop is
 no_pieces (plan spec_name) held start stop is = no_rows start (plan_texts held spec_name) stop is
 no_pieces (load spec_name dir) held start stop is = nothing_loaded start (loading held spec_name dir start) stop is
+no_pieces (refresh names) held start stop is = nothing_taken held names (opened_active start) stop is
 no_pieces (query text) held start stop is = no_rows start (one_text (answered start (query_in text))) stop is
 no_pieces (dump word) held start stop is = no_rows start (one_text (answered start (relation_in word))) stop is
 
--- a command that came to its end refuses nothing
-ends_well : (command : Command) (answer : Status) → IsEndStatus command answer → is_refusal answer ≡ false
-ends_well (show spec_name dir) answer is = ap is_refusal is
-ends_well (plan spec_name) answer is = ap is_refusal is
-ends_well (load spec_name dir) answer is = ap is_refusal is
-ends_well (query text) answer is = ap is_refusal is
-ends_well (dump word) answer is = ap is_refusal is
+-- a command that came to its end refuses nothing, but that change files may be refused
+ends_refusing : (command : Command) (answer : Status) (Stopped Finished : Type 0) → IsEndStatus command answer → is_refusal answer ≡ true → Finished → RefusesBy command Stopped Finished
+ends_refusing (refresh names) answer Stopped Finished done refuses finished = inr finished
+ends_refusing other answer Stopped Finished done refuses finished = absurd (true≢false (sym refuses ∙ ap is_refusal done))
+
+stops_refusing : (command : Command) (Stopped Finished : Type 0) → Stopped → RefusesBy command Stopped Finished
+stops_refusing (refresh names) Stopped Finished stopped = inl stopped
+stops_refusing other Stopped Finished stopped = stopped
 
 -- where a line could not be written, that is told in place of a refusal
 unwritten_refuses : (answer : Status) → is_refusal (unwritten answer) ≡ false
@@ -204,15 +211,30 @@ module _ {D : Type 0} (content : D → Option (List ℕ)) (faults : D → ℕ) (
       kept = λ rest. kept_by stop ends.finish_is (over rest).state;
     }
 
-    by_finish : (finish : Result Status Stop) → IfOk finish (IsEndStatus command) → PrintsHere finish → OverDisks finish → Reports finish before after result → IsRefused content images start outcome before after result
-    by_finish (Ok answer) done ends over reports = absurd (other_than answer (ends_well command answer done) reports.0)
+    abbrev Stopped : Type 0
+    Stopped = IsRefused content images start outcome before after result
+
+    abbrev Finished : Type 0
+    Finished = IsFinished content images start outcome before after result
+
+    finished_by : (answer : Status) → Whole (Ok answer) → OverDisks (Ok answer) → Reports (Ok answer) before after result → Finished
+    finished_by answer ends over reports = record {
+      cause = ends.finish_is ∙ ap (λ (s : Status). Ok s) (sym reports.0);
+      printed = ends.printed;
+      told = reports.1;
+      state = λ rest. (over rest).state;
+    }
+
+    by_finish : (finish : Result Status Stop) → IfOk finish (IsEndStatus command) → PrintsHere finish → OverDisks finish → Reports finish before after result → RefusesBy command Stopped Finished
+    by_finish (Ok answer) done ends over reports =
+        ends_refusing command answer Stopped Finished done (ap is_refusal (sym reports.0) ∙ refuses) (finished_by answer ends over reports)
     by_finish (Err (ReadFault file)) done ends over reports = absurd (other_than status.ReadFault refl (line_told (ReadFault file) reports).0)
     by_finish (Err WriteFault) done ends over reports = absurd (other_than status.WriteFault refl (line_told WriteFault reports).0)
     by_finish (Err DiskFault) done ends over reports = absurd (other_than status.DiskFault refl (line_told DiskFault reports).0)
     by_finish (Err NoMemory) done ends over reports = absurd (other_than status.NoMemory refl (line_told NoMemory reports).0)
-    by_finish (Err other) done ends over reports = refused_by other ends over reports
+    by_finish (Err other) done ends over reports = stops_refusing command Stopped Finished (refused_by other ends over reports)
 
-    pub refused_at : (words : List (List ℕ)) → command_of words ≡ Some command → Begins content images command before.view held start → Answers content faults images words before after result → IsRefused content images start outcome before after result
+    pub refused_at : (words : List (List ℕ)) → command_of words ≡ Some command → Begins content images command before.view held start → Answers content faults images words before after result → RefusesBy command Stopped Finished
     refused_at words named begins answers =
         let ends = finishes_of content faults images words command before after result named answers in
         by_finish answers.finish ends.done (prints content images command held start before.view after.view answers.finish begins.0 ends begins.1)
@@ -255,6 +277,11 @@ module _ {D : Type 0} (content : D → Option (List ℕ)) (images : D → List �
         printed = subst (GainsPrefix out out_after) (texts_more outcome.pieces ends.k) (prefix_within out out_after (texts (take ends.k outcome.pieces)) (text_at outcome.pieces ends.k) (some_done ends.k ends.printed));
       }) (ends.state c d left_c left_d)
 
+pub keeps : {D : Type 0} (content : D → Option (List ℕ)) (faults : D → ℕ) (images : D → List ℕ → Type 0) → KeepsAcknowledged content faults images
+keeps content faults images = λ words command held start before after result named told rest answers.
+    let ends = finishes_of content faults images words command before after result named answers in
+    told_by content images (expected command held start) after.view before.view.out after.view.out (way_of answers.finish) answers.finish (over_disks content images command held start before.view after.view answers.finish told ends rest)
+
 -- ---- apart from the store
 
 -- where the line of a stop could not be written that is a fault of a sink, or the same status
@@ -266,10 +293,19 @@ other_status (Damaged words) failed none = absurd (cc (none))
 other_status other true none = refl
 other_status other false none = refl
 
+refresh_outside : (answer : Status) → IsRefreshStatus answer → is_store_status answer ≡ false
+refresh_outside status.Ok done = refl
+refresh_outside status.Refused done = refl
+refresh_outside status.BadInput done = refl
+refresh_outside status.Limit done = refl
+refresh_outside status.NoFile done = refl
+refresh_outside other done = absurd done
+
 ends_outside : (command : Command) (answer : Status) → IsEndStatus command answer → is_store_status answer ≡ false
 ends_outside (show spec_name dir) answer is = ap is_store_status is
 ends_outside (plan spec_name) answer is = ap is_store_status is
 ends_outside (load spec_name dir) answer is = ap is_store_status is
+ends_outside (refresh names) answer is = refresh_outside answer is
 ends_outside (query text) answer is = ap is_store_status is
 ends_outside (dump word) answer is = ap is_store_status is
 

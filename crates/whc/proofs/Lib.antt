@@ -1,10 +1,13 @@
 pub mod Asked
 pub mod Asks
+pub mod BySets
 pub mod Commands
 pub mod Counts
 pub mod Dumps
 pub mod Fitting
 pub mod Follows
+pub mod History
+pub mod Judged
 pub mod Loaded
 pub mod Loads
 pub mod Making
@@ -16,6 +19,7 @@ pub mod RefreshOne
 pub mod RefreshReads
 pub mod RefreshRun
 pub mod RefreshTaken
+pub mod Refreshed
 pub mod Shown
 pub mod Shows
 pub mod Stores

@@ -15,7 +15,7 @@ use Rattle.wh_store.specs.Warehouse.{Stands}
 use Rattle.whc.specs.declared.status.Status.{Status}
 use Rattle.whc.specs.declared.status.Status.TheVariants as status
 use Rattle.whc.specs.declared.stop.Stop.{Stop}
-use Rattle.whc.specs.Commands.{Command, load, command_of, are_apart, is_apart, expected}
+use Rattle.whc.specs.Commands.{Command, load, refresh, command_of, are_apart, is_apart, expected}
 use Rattle.whc.specs.Disks.{BothRest}
 use Rattle.whc.specs.Inputs.{spec_file, dump_files}
 use Rattle.whc.specs.Load.{loaded_text}
@@ -127,10 +127,24 @@ pub record IsRefused {D : Type 0} (content : D → Option (List ℕ)) (images : 
   pub printed : after.view.out ≡ before.view.out
   pub kept : BothRest content images before.view.first before.view.second start → BothRest content images after.view.first after.view.second start
 
+-- the command came to its end with that status; all is printed, nothing is told, and its last state stands
+pub record IsFinished {D : Type 0} (content : D → Option (List ℕ)) (images : D → List ℕ → Type 0) (start : Holding) (outcome : Outcome) (before after : Scene D) (result : Status) : Type 0 where
+  pub cause : outcome.finish ≡ Ok result
+  pub printed : after.view.out ≡ gained before.view.out (texts outcome.pieces)
+  pub told : after.err ≡ before.err
+  pub state : Reaches content images start outcome before.view after.view
+
+-- A command refuses by a stop. Change files alone are also refused one by one, each in a line of its own, and the status is that of the
+-- first one refused.
+abbrev pub RefusesBy : Command → Type 0 → Type 0 → Type 0
+RefusesBy (refresh names) Stopped Finished = Stopped ⊎ Finished
+RefusesBy other Stopped Finished = Stopped
+
 -- Each refusal has its cause in what the files and the store hold.
 abbrev pub RefusalHasCause : {D : Type 0} → (D → Option (List ℕ)) → (D → ℕ) → (D → List ℕ → Type 0) → Type 0
 RefusalHasCause {D = D} content faults images = (words : List (List ℕ)) (command : Command) (held : Held) (start : Holding) (before after : Scene D) (result : Status) → command_of words ≡ Some command
-    → Begins content images command before.view held start → is_refusal result ≡ true → Answers content faults images words before after result → IsRefused content images start (expected command held start) before after result
+    → Begins content images command before.view held start → is_refusal result ≡ true → Answers content faults images words before after result
+    → RefusesBy command (IsRefused content images start (expected command held start) before after result) (IsFinished content images start (expected command held start) before after result)
 
 -- no count rose
 pub record NoFault {D : Type 0} (faults : D → ℕ) (before after : Scene D) : Type 0 where

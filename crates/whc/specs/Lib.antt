@@ -3,6 +3,7 @@ pub mod Ask
 pub mod Commands
 pub mod Disks
 pub mod Ends
+pub mod Headline
 pub mod Inputs
 pub mod Laws
 pub mod Load
@@ -10,6 +11,7 @@ pub mod Outcome
 pub mod Plan
 pub mod Refresh
 pub mod RefreshSteps
+pub mod RefreshLaws
 pub mod Run
 pub mod Show
 pub mod Steps

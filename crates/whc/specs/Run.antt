@@ -1,26 +1,28 @@
 -- What a run of the program answers.
-use Rattle.std.specs.Prelude.{◌≡◌, ℕ, true, false, List, Option, None, Some, IfSome, IfOk, OnOk, Result, Ok, Err}
+use Rattle.std.specs.Prelude.{◌≡◌, ℕ, ◌+◌, ◌≤◌, true, false, List, length, Option, None, Some, IfSome, IfOk, OnOk, Result, Ok, Err}
 use Rattle.wh_io.specs.Causes.{IsCounted, IsCountedPair}
 use Rattle.wh_io.specs.Files.{Held}
 use Rattle.wh_store.specs.Image.{Holding}
 use Rattle.whc.specs.declared.status.Status.{Status}
 use Rattle.whc.specs.declared.stop.Stop.{Stop}
 use Rattle.whc.specs.declared.stop.Stop.TheVariants.{Usage}
-use Rattle.whc.specs.Commands.{Command, show, plan, load, query, dump, is_apart, command_of, expected, expected_of, IsEndStatus}
+use Rattle.whc.specs.Commands.{Command, show, plan, load, refresh, query, dump, is_apart, command_of, expected, expected_of, IsEndStatus}
 use Rattle.whc.specs.Disks.{BothRest, BothLeave, CrashReaches}
 use Rattle.whc.specs.Ends.{Ends}
 use Rattle.whc.specs.Inputs.{IsNextFile}
 use Rattle.whc.specs.Load.{loading, IsReadByLoad, HoldsSnapshot}
+use Rattle.whc.specs.Refresh.{refresh_outcome, opened_active, IsUnderWay, WritesChanges}
 use Rattle.whc.specs.Steps.{NamesRead, is_usage, is_store_stop, is_read_fault, is_write_fault, is_disk_fault}
 use Rattle.whc.specs.Stop.{IsTold}
 
--- the file whose reading may fail, over what the store holds
-abbrev pub IsReadBy : Command → Held → Holding → List ℕ → Type 0
-IsReadBy (show spec_name dir) held start = IsNextFile held spec_name dir
-IsReadBy (plan spec_name) held start = λ file. file ≡ spec_name
-IsReadBy (load spec_name dir) held start = IsReadByLoad held spec_name dir start
-IsReadBy (query text) held start = λ file. ⊥
-IsReadBy (dump word) held start = λ file. ⊥
+-- the file whose reading may fail, over what the store holds; of change files, the one of which `out` says that it is under way
+abbrev pub IsReadBy : Command → Held → Holding → Option (List ℕ) → Option (List ℕ) → List ℕ → Type 0
+IsReadBy (show spec_name dir) held start before after = IsNextFile held spec_name dir
+IsReadBy (plan spec_name) held start before after = λ file. file ≡ spec_name
+IsReadBy (load spec_name dir) held start before after = IsReadByLoad held spec_name dir start
+IsReadBy (refresh names) held start before after = IsUnderWay names (refresh_outcome held names start).pieces before after
+IsReadBy (query text) held start before after = λ file. ⊥
+IsReadBy (dump word) held start before after = λ file. ⊥
 
 -- what is seen, at one moment, of the things that a command works on
 pub record View (D : Type 0) : Type 0 where
@@ -32,7 +34,7 @@ pub record View (D : Type 0) : Type 0 where
 -- A command ended in one of the ways that its outcome allows, and a fault of reading names a file that it had come to.
 pub record EndsFrom (command : Command) (held : Held) (start : Holding) (Rests : Holding → Type 0) (Leaves : Holding → Holding → Type 0) (before after : Option (List ℕ)) (finish : Result Status Stop) : Type 0 where
   pub ends : Ends (expected command held start) Rests Leaves before after finish
-  pub names : NamesRead (IsReadBy command held start) finish
+  pub names : NamesRead (IsReadBy command held start before after) finish
 
 -- A command that works apart from the store leaves both disks as they were, blames none, and ends as its outcome allows whatever the
 -- store holds.
@@ -42,10 +44,11 @@ pub record EndsApart {D : Type 0} (command : Command) (before after : View D) (f
   pub second : after.second ≡ before.second
   pub from : IfSome before.held (λ held. (start : Holding) → EndsFrom command held start (λ state. state ≡ start) (λ _ _. ⊥) before.out after.out finish)
 
--- What a command leaves in the files, byte by byte: after a load the first is one snapshot of what was loaded. No load writes the second,
--- and what only prints rows of the store writes neither.
+-- What a command leaves in the files, byte by byte: after a load the first is one snapshot of what was loaded, and after change files the
+-- active one has a frame more for each that was accepted. No load writes the second, and what only prints rows of the store writes neither.
 abbrev pub LeavesBytes : {D : Type 0} → (D → Option (List ℕ)) → Command → Held → Holding → View D → View D → Result Status Stop → Type 0
 LeavesBytes content (load spec_name dir) held start before after finish = OnOk finish (HoldsSnapshot (loading held spec_name dir start) (content after.first)) × (content after.second ≡ content before.second)
+LeavesBytes content (refresh names) held start before after finish = OnOk finish (WritesChanges content held names (opened_active start) before.first after.first before.second after.second)
 LeavesBytes content (query text) held start before after finish = (content after.first ≡ content before.first) × (content after.second ≡ content before.second)
 LeavesBytes content (dump word) held start before after finish = (content after.first ≡ content before.first) × (content after.second ≡ content before.second)
 LeavesBytes content other held start before after finish = Unit {0}
@@ -70,6 +73,12 @@ Finishes content images (Some command) before after finish = EndsAs content imag
 abbrev pub Crashes : {D : Type 0} → (D → Option (List ℕ)) → (D → List ℕ → Type 0) → (D → ℕ) → (D → ℕ → List ℕ → Type 0) → Option Command → Option Held → D → D → D → D → Type 0
 Crashes content images moment images_since named held first_old first_new second_old second_new =
     IfSome held (λ files. (start : Holding) → BothRest content images first_old second_old start → CrashReaches moment images_since (expected_of named files start) first_old first_new second_old second_new)
+
+-- Where change files are taken, no more bytes are read of a disk than its file had.
+abbrev pub ReadsOnce : {D : Type 0} → (D → Option (List ℕ)) → (D → ℕ) → Option Command → D → D → D → D → Type 0
+ReadsOnce content reads (Some (refresh names)) first_old first_new second_old second_new =
+    IfSome (content first_old) (λ a. reads first_new ≤ reads first_old + length a) × IfSome (content second_old) (λ b. reads second_new ≤ reads second_old + length b)
+ReadsOnce content reads other first_old first_new second_old second_new = Unit {0}
 
 -- and the counts of faults, and `err`
 pub record Scene (D : Type 0) : Type 0 where

@@ -43,7 +43,7 @@ status_of (NoFile file) = status.NoFile
 
 -- the commands that are built
 abbrev pub usage : List ℕ
-usage = line (codes "usage: whc STORE COMMAND") ++ (line (codes "  show SPEC DIR") ++ (line (codes "  plan SPEC") ++ (line (codes "  load SPEC DIR") ++ (line (codes "  query TEXT") ++ line (codes "  dump RELATION")))))
+usage = line (codes "usage: whc STORE COMMAND") ++ (line (codes "  show SPEC DIR") ++ (line (codes "  plan SPEC") ++ (line (codes "  load SPEC DIR") ++ (line (codes "  refresh FILE..") ++ (line (codes "  query TEXT") ++ line (codes "  dump RELATION"))))))
 
 abbrev pub line_of : Stop → List ℕ
 line_of (Refused words) = codes "refused: " ++ line words

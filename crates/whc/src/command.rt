@@ -2,12 +2,13 @@
 ghost use Rattle.std.specs.Prelude.{◌≡◌, ◌≤◌, false};
 ghost use Rattle.wh_io.specs.Causes.{IsCounted, IsCountedPair};
 ghost use Rattle.whc.specs.Commands.{command_of, words_of};
-ghost use Rattle.whc.specs.Run.{Finishes, Crashes};
+ghost use Rattle.whc.specs.Run.{Finishes, Crashes, ReadsOnce};
 ghost use Rattle.whc.specs.Steps.{is_read_fault, is_write_fault, is_disk_fault};
 
 use crate::ask::{dump, query};
 use crate::load::load;
 use crate::plan::plan;
+use crate::refresh::refresh;
 use crate::show::show;
 use crate::status::Status;
 use crate::stop::Stop;
@@ -33,6 +34,7 @@ pub fn perform<F: Files, O: Sink, D: Disk, L: Ledger>(
     ensures read { IsCounted (is_read_fault result) (F.faults files.old) (F.faults files.new) }
     ensures write { IsCounted (is_write_fault result) (O.faults out.old) (O.faults out.new) }
     ensures disk { IsCountedPair (is_disk_fault result) (D.faults first.old) (D.faults first.new) (D.faults second.old) (D.faults second.new) }
+    ensures reads { ReadsOnce D.content D.reads (command_of (words_of words.now)) first.old first.new second.old second.new }
     ensures probes { steps.old.probes ≤ steps.new.probes }
     ensures scans { steps.old.scans ≤ steps.new.scans }
 {
@@ -61,6 +63,9 @@ pub fn perform<F: Files, O: Sink, D: Disk, L: Ledger>(
         }
         [verb, word] if verb.as_str() == "dump" => {
             dump(alloc, word.as_str(), out, first, second, steps)
+        }
+        [verb, names @ ..] if !names.is_empty() && verb.as_str() == "refresh" => {
+            refresh(alloc, names, files, out, first, second, steps)
         }
         _ => Err(Stop::Usage),
     }

@@ -1,6 +1,8 @@
 // What follows of every run. The functions have no code.
 ghost use Rattle.whc.specs.AskLaws.{QueryPrintsAnswer, DumpPrintsRelation};
+ghost use Rattle.whc.specs.Headline.{Headline};
 ghost use Rattle.whc.specs.Laws.{ReadFaultHasCause, DiskFaultHasCause, KeepsAcknowledged, WriteFaultHasCause, StaysApart, UsageHasCause, OtherWordsAreTold, RefusalHasCause, IsExact, PrintsFirstPart, ShowPrintsStored, ShowRefusesBroken, LoadWritesOneSnapshot, LoadReaches, LoadStands};
+ghost use Rattle.whc.specs.RefreshLaws.{RefreshesAsJudged, RefreshStands, RefreshReaches, RefusedExactly};
 
 use wh_io::Disk;
 
@@ -87,4 +89,30 @@ pub fn query_prints_answer<D: Disk>()
 /// After Ok `dump` has printed the relation's rows in the state that the store stands for.
 pub fn dump_prints_relation<D: Disk>()
     ensures { DumpPrintsRelation D.content D.faults D.images }
+{}
+
+/// A change file is accepted or refused as the sources that the store stands for judge it.
+pub fn refreshes_as_judged()
+    ensures { RefreshesAsJudged }
+{}
+
+/// After a run of change files that took them all the files hold the stored tables of the sources with the changes accepted.
+pub fn refresh_stands<D: Disk>()
+    ensures { RefreshStands D.content D.faults D.images }
+{}
+
+/// What a crash leaves of change files is what some first ones of them lead to.
+pub fn refresh_reaches()
+    ensures { RefreshReaches }
+{}
+
+/// A well-formed change within the limits is refused exactly where the changed sources break a constraint.
+pub fn refused_exactly()
+    ensures { RefusedExactly }
+{}
+
+/// After a load and any change files the store stands for the sources with the changes accepted since; queries print their rows over it,
+/// changes are refused exactly where they break a constraint, and no crash leaves anything but what some first files lead to.
+pub fn headline<D: Disk>()
+    ensures { Headline D.content D.faults D.images }
 {}

@@ -1,7 +1,7 @@
 // The top call.
 ghost use Rattle.std.specs.Prelude.{◌≡◌, ◌≤◌};
 ghost use Rattle.whc.specs.Commands.{command_of, words_of};
-ghost use Rattle.whc.specs.Run.{Answers, Crashes};
+ghost use Rattle.whc.specs.Run.{Answers, Crashes, ReadsOnce};
 
 use crate::command::perform;
 use crate::status::Status;
@@ -43,6 +43,7 @@ pub fn run<F: Files, O: Sink, E: Sink, D: Disk, L: Ledger>(
         result }
     ensures crash { Crashes D.content D.images D.moment D.images_since (command_of (words_of words.now)) (F.held files.old) first.old first.new second.old second.new }
     ensures files { F.held files.new ≡ F.held files.old }
+    ensures reads { ReadsOnce D.content D.reads (command_of (words_of words.now)) first.old first.new second.old second.new }
     ensures probes { steps.old.probes ≤ steps.new.probes }
     ensures scans { steps.old.scans ≤ steps.new.scans }
 {

@@ -50,7 +50,7 @@ impl From<NoMemory> for Stop {
 }
 
 const USAGE: &[u8] =
-    b"usage: whc STORE COMMAND\n  show SPEC DIR\n  plan SPEC\n  load SPEC DIR\n  query TEXT\n  dump RELATION\n";
+    b"usage: whc STORE COMMAND\n  show SPEC DIR\n  plan SPEC\n  load SPEC DIR\n  refresh FILE..\n  query TEXT\n  dump RELATION\n";
 
 impl Stop {
     pub fn status(&self) -> Status

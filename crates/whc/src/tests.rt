@@ -408,7 +408,7 @@ fn each_specification_is_refused_at_its_place(rt: HostRuntime) -> Result<(), Fai
 }
 
 const USAGE: &str =
-    "usage: whc STORE COMMAND\n  show SPEC DIR\n  plan SPEC\n  load SPEC DIR\n  query TEXT\n  dump RELATION\n";
+    "usage: whc STORE COMMAND\n  show SPEC DIR\n  plan SPEC\n  load SPEC DIR\n  refresh FILE..\n  query TEXT\n  dump RELATION\n";
 
 const HELD_T: &[(&str, &[u8])] = &[
     ("s", T),
