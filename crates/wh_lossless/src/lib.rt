@@ -5,3 +5,6 @@ mod joining;
 mod mark;
 
 pub use mark::always_empty;
+
+#[cfg(test)]
+mod tests;
