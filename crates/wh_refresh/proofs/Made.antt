@@ -56,9 +56,10 @@ module _ (w : Warehouse) (p : Place) (a b : List ℕ) (active : Active) (m : Mat
     made_answer low short = made_is w active.image m.warehouse.spec tables_are lines net is m.warehouse.seq low (omega (arith, short, m.place.end))
 
     pub net_answer : w.seq < 2 ^ 64 - 1 → p.journal.end + 10 + length (change_body (w.seq + 1) net.stored) ≤ 2 ^ 40 → IsRefreshed active.image lines (Ok net)
-    net_answer low short =
-        (made_answer low short ∙ ap accepted_as (sym changes_are),
-          is.source ∙ sources_same w active.image m.warehouse.spec tables_are lines)
+    net_answer low short = (
+      made_answer low short ∙ ap accepted_as (sym changes_are),
+      is.source ∙ sources_same w active.image m.warehouse.spec tables_are lines,
+    )
 
     pub may_follow : AllByRecursion IsSpelledDelta net.stored → length net.stored < 2 ^ 32 → are_stored_deltas w.plan.spec (own_image w).tables net.stored ≡ true → MayFollow active.image net.stored
     may_follow spelled count allowed = record {

@@ -1,8 +1,8 @@
 //! One change of a store.
 #![tactic(auto)]
 
-mod fault;
 mod differences;
+mod fault;
 mod net;
 mod refreshing;
 

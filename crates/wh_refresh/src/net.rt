@@ -1,5 +1,5 @@
 // What a change comes to before anything is written.
-ghost use Rattle.std.specs.Prelude.{◌≡◌, ◌<◌, ◌≤◌, ℕ, map, length, IfOk, IfErr, OnOk};
+ghost use Rattle.std.specs.Prelude.{◌≡◌, ◌<◌, ◌≤◌, ℕ, None, map, length, IfOk, IfErr, OnOk};
 ghost use Rattle.std.specs.List.{AllByRecursion};
 ghost use Rattle.wh_base.specs.RowSet.{AreDistinct};
 ghost use Rattle.wh_check.specs.Check.{sources_with};
@@ -11,7 +11,6 @@ ghost use Rattle.wh_schema.specs.Constraints.{broken};
 ghost use Rattle.wh_schema.specs.Legality.{IsState};
 ghost use Rattle.wh_schema.specs.Warehouse.{stored};
 ghost use Rattle.wh_store.specs.Warehouse.{HoldsValues, IsInForm, table_at};
-ghost use Rattle.std.specs.Prelude.{None};
 
 use crate::differences::table_differences;
 use crate::fault::RefreshFault;

@@ -10,7 +10,7 @@ pub mod HeldValues
 pub mod Loaded
 pub mod OpenLemmas
 pub mod Searches
-mod SoundFiles
+pub mod SoundFiles
 pub mod SpelledTables
 pub mod StoredLemmas
 pub mod TableLemmas

@@ -1,9 +1,8 @@
 -- A run over change files, one after another: in its midst, cut off, and at its end.
-use Rattle.std.proofs.Common.{◌≡◌, ◌⊎◌, inl, inr, ⊎_elim, ℕ, zero, suc, ◌+◌, ◌≤◌, ◌<◌, List, [], ◌∷◌, ◌++◌, length, map, get_or, take, drop, Option, None, Some, Result, Ok, Err, OnOk, refl, sym, ◌∙◌, ap, subst, arith, append_assoc, append-nil, length-append, add-one, drop-cons}
+use Rattle.std.proofs.Common.{◌≡◌, inl, inr, ℕ, zero, suc, ◌+◌, ◌≤◌, ◌<◌, List, [], ◌∷◌, ◌++◌, length, map, get_or, take, drop, Option, None, Some, Result, Ok, Err, refl, sym, ◌∙◌, ap, subst, arith, append_assoc, append-nil, length-append, add-one, drop-cons}
 use Rattle.std.proofs.lemmas.Grind.{flat_map-append}
 use Rattle.std.proofs.lemmas.List.{drop_all}
-use Rattle.std.specs.Option.{ForSome, option_map}
-use Rattle.wh_io.specs.Crash.{LeavesOnly, Only}
+use Rattle.std.specs.Option.{option_map}
 use Rattle.wh_io.specs.Files.{Held}
 use Rattle.wh_io.specs.Sink.{gained, GainsPrefix}
 use Rattle.wh_io.proofs.Gained.{gained_nothing, gained_twice}
@@ -12,16 +11,15 @@ use Rattle.wh_schema.specs.Changes.{Line}
 use Rattle.wh_store.specs.declared.warehouse.Place.{Place}
 use Rattle.wh_store.specs.declared.warehouse.Warehouse.{Warehouse}
 use Rattle.wh_store.specs.declared.warehouse.Which.{Which}
-use Rattle.wh_store.specs.Commit.{active_of, other_of}
+use Rattle.wh_store.specs.Commit.{active_of}
 use Rattle.wh_store.specs.Image.{Active, Holding}
 use Rattle.whc.specs.declared.status.Status.{Status}
 use Rattle.whc.specs.declared.status.Status.TheVariants as status
 use Rattle.whc.specs.declared.stop.Stop.{Stop}
-use Rattle.whc.specs.declared.stop.Stop.TheVariants.{Refused, Usage, BadSpec, BadInput, BadQuery, ReadFault, WriteFault, DiskFault, NotLoaded, AlreadyLoaded, Damaged, Limit, NoMemory, NoFile}
+use Rattle.whc.specs.declared.stop.Stop.TheVariants.{ReadFault, WriteFault, DiskFault, NoMemory}
 use Rattle.whc.specs.Disks.{BothLeave, BothRest}
-use Rattle.whc.specs.Ends.{Ends}
 use Rattle.whc.specs.Outcome.{IsReached, Piece, last_state, state_after, text_at, texts}
-use Rattle.whc.specs.Refresh.{IsRefreshStatus, IsUnderWay, Rejection, Taken, accepted, file_after, file_by, file_text, first_status, piece_of, refresh_outcome, refresh_pieces, refresh_status, taken, taken_by}
+use Rattle.whc.specs.Refresh.{IsRefreshStatus, Rejection, Taken, accepted, file_after, file_by, first_status, piece_of, refresh_outcome, refresh_pieces, refresh_status, taken, taken_by}
 use Rattle.whc.specs.RefreshSteps.{IsEitherState, Midway, Moves, StandsAt, TakesAll, TakesFile, beside}
 use Rattle.whc.proofs.RefreshOne.{OnlyNow, kept_moves}
 

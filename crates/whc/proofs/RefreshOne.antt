@@ -1,35 +1,26 @@
 -- One change file: what is stored, what a crash leaves, and the bytes of the active file.
-use Rattle.std.proofs.Common.{◌≡◌, ◌⊎◌, inl, inr, ⊎_elim, ℕ, ◌+◌, ◌-◌, ◌^◌, ◌==◌, ◌≤◌, Bool, true, false, if◌then◌else◌, List, [], ◌++◌, map, Option, None, Some, IfSome, Result, Ok, Err, OnOk, OnErr, refl, sym, ◌∙◌, ap, subst, arith, append_assoc}
-use Rattle.std.specs.Prelude.{codes, decimal}
-use Rattle.std.specs.Option.{ForSome, option_map}
+use Rattle.std.proofs.Common.{◌≡◌, ◌⊎◌, ℕ, ◌-◌, ◌^◌, ◌==◌, ◌≤◌, Bool, true, false, if◌then◌else◌, List, ◌++◌, Option, None, Some, Ok, Err, refl, sym, ◌∙◌, ap, subst, append_assoc}
+use Rattle.std.specs.Option.{option_map}
 use Rattle.wh_base.specs.declared.value.Delta.{Delta}
 use Rattle.wh_io.specs.Crash.{IsSettled, LeavesOnly, Only}
 use Rattle.wh_io.proofs.Moments.{leaves_map, started}
-use Rattle.wh_journal.specs.Journal.{appended}
 use Rattle.wh_refresh.specs.declared.fault.RefreshFault.{RefreshFault}
 use Rattle.wh_refresh.specs.declared.fault.RefreshFault.TheVariants as fault
-use Rattle.wh_refresh.specs.Refresh.{IsRefreshed, Refuses, checked, next_body, numbered, refreshed, sized, stored_changes}
+use Rattle.wh_refresh.specs.Refresh.{checked, next_body, refreshed, sized, stored_changes}
 use Rattle.wh_schema.specs.declared.broken.Broken as breach
 use Rattle.wh_schema.specs.Changes.{Line}
 use Rattle.wh_schema.specs.Constraints.{broken}
 use Rattle.wh_schema.specs.Warehouse.{stored}
-use Rattle.wh_check.specs.Check.{source_deltas, sources_after}
-use Rattle.wh_store.specs.declared.warehouse.NetChange.{NetChange}
+use Rattle.wh_check.specs.Check.{sources_after}
 use Rattle.wh_store.specs.declared.warehouse.Place.{Place}
 use Rattle.wh_store.specs.declared.warehouse.Warehouse.{Warehouse}
 use Rattle.wh_store.specs.declared.warehouse.Which.{Which}
 use Rattle.wh_store.specs.declared.warehouse.Which.TheVariants.{First, Second}
-use Rattle.wh_store.specs.Commit.{IsHeldBeforeOrAfter, Matches, active_of, active_with, change_body, held_with, is_past_limit, other_of}
+use Rattle.wh_store.specs.Commit.{IsHeldBeforeOrAfter, Matches, active_of, active_with, held_with, is_past_limit, other_of}
 use Rattle.wh_store.specs.Image.{Active, Holding, Image, first_over, holding}
-use Rattle.wh_store.specs.Warehouse.{IsWarehouseOf}
-use Rattle.whc.specs.declared.refresh_line.Report.{Report}
-use Rattle.whc.specs.declared.status.Status.{Status}
-use Rattle.whc.specs.declared.status.Status.TheVariants as status
-use Rattle.whc.specs.declared.stop.Stop.{Stop}
-use Rattle.whc.specs.declared.stop.Stop.TheVariants.{DiskFault, NoMemory}
 use Rattle.whc.specs.Disks.{BothLeave}
-use Rattle.whc.specs.Refresh.{Rejection, accepted_lines, file_by, file_text, refreshed_words, refusal, taken_by, unless_refused}
-use Rattle.whc.specs.RefreshSteps.{EndsTaking, HasFile, IsEitherState, IsReport, Moves, StandsAt, Takes, TellsRefusal, beside, counts_words}
+use Rattle.whc.specs.Refresh.{accepted_lines, refusal, unless_refused}
+use Rattle.whc.specs.RefreshSteps.{IsEitherState, Moves, StandsAt, beside}
 
 -- ---- what is accepted
 

@@ -1,14 +1,8 @@
 -- What a change file is read as.
-use Rattle.std.proofs.Common.{◌≡◌, ℕ, nat_lt, Bool, true, false, if◌then◌else◌, List, ◌++◌, length, map, Option, None, Some, Result, Ok, Err, IfOk, refl, sym, ◌∙◌, ap, subst}
+use Rattle.std.proofs.Common.{◌≡◌, ℕ, nat_lt, Bool, true, false, if◌then◌else◌, List, ◌++◌, length, Option, None, Some, Result, Ok, Err, IfOk, refl, sym, ap, subst}
 use Rattle.std.specs.Prelude.{codes}
 use Rattle.std.specs.Option.{option_map}
-use Rattle.std.specs.List.{AllByRecursion}
-use Rattle.wh_base.specs.declared.value.Attr.{Attr}
 use Rattle.wh_csv.specs.Change.{change_of}
-use Rattle.wh_csv.specs.declared.change.Line as csv
-use Rattle.wh_csv.specs.declared.fault.CsvCause.{CsvCause}
-use Rattle.wh_csv.specs.declared.fault.CsvFault.TheVariants as csv_fault
-use Rattle.wh_fit.specs.Fit.{as_line}
 use Rattle.wh_io.specs.Causes.{IsCounted}
 use Rattle.wh_io.specs.Files.{Held}
 use Rattle.wh_schema.specs.Changes.{Line}
@@ -16,12 +10,11 @@ use Rattle.wh_schema.specs.declared.spec.Spec.{Spec}
 use Rattle.whc.specs.declared.refresh_file.Reading.{Reading}
 use Rattle.whc.specs.declared.refresh_file.Reading.TheVariants.{Lines, Rejected}
 use Rattle.whc.specs.declared.refresh_line.Report.{Report}
-use Rattle.whc.specs.declared.status.Status.TheVariants as status
 use Rattle.whc.specs.declared.stop.Stop.{Stop}
-use Rattle.whc.specs.declared.stop.Stop.TheVariants.{Refused, Usage, BadSpec, BadInput, BadQuery, ReadFault, WriteFault, DiskFault, NotLoaded, AlreadyLoaded, Damaged, Limit, NoMemory, NoFile}
+use Rattle.whc.specs.declared.stop.Stop.TheVariants.{ReadFault, Limit, NoMemory, NoFile}
 use Rattle.whc.specs.Inputs.{file_of}
-use Rattle.whc.specs.Refresh.{IsRefreshStatus, Rejection, lines_in, lines_or, no_file, over_limit, record_rejection}
-use Rattle.whc.specs.RefreshSteps.{IsLastStop, IsReadStop, IsReading, IsReport, IsSoundReading, TellsUnread}
+use Rattle.whc.specs.Refresh.{IsRefreshStatus, Rejection, lines_in, lines_or, no_file, over_limit}
+use Rattle.whc.specs.RefreshSteps.{IsLastStop, IsReadStop, IsReading, IsSoundReading, TellsUnread}
 use Rattle.whc.specs.Steps.{Settles, is_disk_fault, is_read_fault, is_usage, is_write_fault}
 
 -- ---- what a held file is read as

@@ -1,9 +1,8 @@
 -- The whole command `refresh`: the store is opened, and the files are taken.
-use Rattle.std.proofs.Common.{◌≡◌, ◌⊎◌, inl, inr, ℕ, ◌≤◌, true≢false, false, List, [], Option, None, Some, IfSome, Result, Ok, Err, OnOk, refl, sym, ◌∙◌, ap, subst, arith}
+use Rattle.std.proofs.Common.{◌≡◌, ℕ, true≢false, false, List, Option, None, Some, IfSome, Result, Ok, Err, OnOk, refl, sym, ◌∙◌, ap, subst, arith}
 use Rattle.std.specs.Option.{option_map}
-use Rattle.wh_io.specs.Crash.{LeavesOnly, Only}
+use Rattle.wh_io.specs.Crash.{LeavesOnly}
 use Rattle.wh_io.specs.Files.{Held}
-use Rattle.wh_io.specs.Sink.{gained}
 use Rattle.wh_io.proofs.Gained.{gained_nothing}
 use Rattle.wh_io.proofs.Moments.{leaves_map, leaves_then}
 use Rattle.wh_store.specs.declared.warehouse.Place.{Place}
@@ -16,11 +15,11 @@ use Rattle.wh_store.specs.Store.{IsOpened}
 use Rattle.whc.specs.declared.status.Status.{Status}
 use Rattle.whc.specs.declared.stop.Stop.{Stop}
 use Rattle.whc.specs.declared.stop.Stop.TheVariants.{ReadFault, WriteFault, DiskFault, NoMemory}
-use Rattle.whc.specs.Disks.{BothLeave, BothRest, CrashReaches}
-use Rattle.whc.specs.Ends.{Ends, EndsWhole}
+use Rattle.whc.specs.Disks.{BothRest, CrashReaches}
+use Rattle.whc.specs.Ends.{EndsWhole}
 use Rattle.whc.specs.Outcome.{Outcome, IsReached, state_after}
 use Rattle.whc.specs.Refresh.{EndsRefresh, WritesChanges, file_after, finish_over, opened_active, pieces_over, refresh_outcome}
-use Rattle.whc.specs.RefreshSteps.{IsPlaced, Moves, StandsAt, TakesAll, beside}
+use Rattle.whc.specs.RefreshSteps.{IsPlaced, Moves, StandsAt, TakesAll}
 use Rattle.whc.specs.Steps.{UnlessOutside, is_outside, is_read_fault, is_write_fault}
 use Rattle.whc.proofs.Stores.{CountsNow, Stays, crash_still, leave_still, rest_still, settled_on}
 

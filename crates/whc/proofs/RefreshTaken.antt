@@ -1,5 +1,5 @@
 -- What taking one change file comes to.
-use Rattle.std.proofs.Common.{◌≡◌, ◌⊎◌, inl, inr, ℕ, ◌+◌, Bool, true, false, List, [], ◌∷◌, ◌++◌, map, Option, None, Some, IfSome, Result, Ok, Err, OnOk, OnErr, IfOk, refl, sym, ◌∙◌, ap, subst, arith, append-nil}
+use Rattle.std.proofs.Common.{◌≡◌, inl, ℕ, ◌+◌, Bool, true, false, List, [], ◌∷◌, ◌++◌, map, Option, None, Some, IfSome, Result, Ok, Err, OnOk, refl, sym, ◌∙◌, ap, subst}
 use Rattle.std.specs.Prelude.{codes, decimal}
 use Rattle.std.specs.Option.{ForSome, option_map}
 use Rattle.wh_base.specs.Lines.{line}
@@ -29,7 +29,7 @@ use Rattle.whc.specs.declared.refresh_line.Report.{Report}
 use Rattle.whc.specs.declared.status.Status.{Status}
 use Rattle.whc.specs.declared.status.Status.TheVariants as status
 use Rattle.whc.specs.declared.stop.Stop.{Stop}
-use Rattle.whc.specs.declared.stop.Stop.TheVariants.{Refused, Usage, BadSpec, BadInput, BadQuery, ReadFault, WriteFault, DiskFault, NotLoaded, AlreadyLoaded, Damaged, Limit, NoMemory, NoFile}
+use Rattle.whc.specs.declared.stop.Stop.TheVariants.{ReadFault, WriteFault, DiskFault, NoMemory}
 use Rattle.whc.specs.Refresh.{Rejection, accepted, accepted_lines, deleted_count, file_text, inserted_count, lines_in, refreshed_words, refusal, taken_by}
 use Rattle.whc.specs.RefreshSteps.{IsEitherState, IsLastStop, IsReading, IsReady, IsReport, Moves, StandsAt, Takes, TakesFile, TellsRefusal, TellsReport, counts_words}
 use Rattle.whc.specs.Steps.{is_disk_fault, is_read_fault, is_usage, is_write_fault}

@@ -1,5 +1,5 @@
 -- The steps of `refresh FILE..`: the lines, one file, and a run in its midst.
-use Rattle.std.specs.Prelude.{◌≡◌, ◌⊎◌, ℕ, ◌+◌, ◌<◌, true, List, [], ◌++◌, length, map, drop, Option, None, Some, Result, Ok, Err, OnOk, codes, decimal}
+use Rattle.std.specs.Prelude.{◌≡◌, ◌⊎◌, ℕ, true, List, ◌++◌, length, map, drop, Option, Some, Result, Ok, Err, OnOk, codes, decimal}
 use Rattle.std.specs.List.{AllByRecursion}
 use Rattle.std.specs.Option.{ForSome, option_map}
 use Rattle.wh_base.specs.declared.value.Delta.{Delta}

@@ -193,4 +193,3 @@ returns-clause-any_moment g c = λ settled.
     let may : MayFollow active.image r.deltas = subst (MayFollow active.image) (sym deltas_are) (may_follow w p a b active m lines net is spelled count allowed) in
     subst (λ (ds : List Delta). LeavesOnly g.D.Disk.moment g.D.Disk.images_since old new (IsHeldBeforeOrAfter active ds a b)) ds_are (leaves active m1 may))
     (c.commit.ensures.any_moment settled)
-

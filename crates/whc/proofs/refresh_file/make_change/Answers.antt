@@ -1,7 +1,7 @@
 use Rattle.std.proofs.Common.{ap, map}
 use Rattle.wh_fit.specs.Fit.{as_line}
 use Rattle.wh_plan.specs.declared.plan.Plan.{Plan}
-use Rattle.whc.proofs.RefreshTaken.{takes_change, takes_refusal, takes_none, ready_made, refusal_ready, refusal_read, refusal_write, refusal_usage, refusal_disk}
+use Rattle.whc.proofs.RefreshTaken.{takes_change, takes_refusal, ready_made, refusal_ready, refusal_read, refusal_write, refusal_usage, refusal_disk}
 use Rattle.whc.proofs.refresh_file.make_change.Goals as goal
 
 pub returns-in-Ok-clause-takes : goal.returns-in-Ok-clause-takes

@@ -1,5 +1,5 @@
 use Rattle.whc.proofs.RefreshTaken.{takes_lines, takes_turned, takes_stop}
-use Rattle.whc.proofs.RefreshReads.{last_disk, last_usage, last_write}
+use Rattle.whc.proofs.RefreshReads.{last_usage, last_write}
 use Rattle.whc.proofs.refresh_file.take_file.Goals as goal
 
 pub returns-in-Ok-Lines-clause-takes : goal.returns-in-Ok-Lines-clause-takes

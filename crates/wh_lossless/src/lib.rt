@@ -1,0 +1,10 @@
+//! The relations whose complements are empty in every legal state.
+#![tactic(auto)]
+
+mod joining;
+mod mark;
+
+pub use mark::always_empty;
+
+#[cfg(test)]
+mod tests;
