@@ -10,6 +10,8 @@ mod plan;
 #[cfg(test)]
 mod query_tests;
 mod refresh;
+#[cfg(test)]
+mod refresh_fault_tests;
 mod refresh_file;
 mod refresh_line;
 #[cfg(test)]

@@ -11,7 +11,7 @@ use wh_base::NoMemory;
 use wh_steps::{NoLedger, Steps};
 
 // The dumps of a store of sales, and change files.
-const HELD_B: &[(&str, &[u8])] = &[
+pub(crate) const HELD_B: &[(&str, &[u8])] = &[
     ("spec_b.txt", SPEC_B),
     ("dir_a/Emp.csv", EMP),
     ("dir_a/Sale.csv", SALE),
@@ -39,11 +39,11 @@ const HELD_B: &[(&str, &[u8])] = &[
     ("bytes", b"+,Emp,\xff,40\n"),
 ];
 
-const LOADED: Row<'static> = Row(LOAD_B, NONE, End(Status::Ok, LOADED_B, ""));
+pub(crate) const LOADED: Row<'static> = Row(LOAD_B, NONE, End(Status::Ok, LOADED_B, ""));
 
-const EMPLOYEES: &[&str] = &["dump", "Emp"];
+pub(crate) const EMPLOYEES: &[&str] = &["dump", "Emp"];
 
-const SALES: &[&str] = &["dump", "Sale"];
+pub(crate) const SALES: &[&str] = &["dump", "Sale"];
 
 const CHANGES: &[Story<'static>] = &[
     Story {
@@ -533,21 +533,21 @@ fn frames_are_added(rt: HostRuntime) -> Result<(), Fail> {
 const USAGE: &str =
     "usage: whc STORE COMMAND\n  show SPEC DIR\n  plan SPEC\n  load SPEC DIR\n  refresh FILE..\n  query TEXT\n  dump RELATION\n";
 
-const WITH_ZOE: End<'static> = End(
+pub(crate) const WITH_ZOE: End<'static> = End(
     Status::Ok,
     "clerk,age\nJohn,25\nMary,23\nPaula,32\nZoe,40\n",
     "",
 );
 
-const SOLD_BY_ZOE: End<'static> = End(
+pub(crate) const SOLD_BY_ZOE: End<'static> = End(
     Status::Ok,
     "item,clerk\nPC,John\nTV,Mary\nTV,Zoe\nVCR,Mary\n",
     "",
 );
 
-const THREE: &[&str] = &["refresh", "a.csv", "b.csv", "c.csv"];
+pub(crate) const THREE: &[&str] = &["refresh", "a.csv", "b.csv", "c.csv"];
 
-const TOOK_TWO: End<'static> = End(
+pub(crate) const TOOK_TWO: End<'static> = End(
     Status::Refused,
     "a.csv: refresh 1, sources -0 +1, stored -0 +1
 b.csv: refused, inclusion 3 Sale(clerk) in Emp(clerk) lacks (Nobody)
@@ -672,7 +672,11 @@ fn files_are_taken_in_their_order(rt: HostRuntime) -> Result<(), Fail> {
     Ok(tell_all(&rt, rt.alloc(), &mut counts, RUNS)?)
 }
 
-const AT_FIRST: End<'static> = End(Status::Ok, "clerk,age\nJohn,25\nMary,23\nPaula,32\n", "");
+pub(crate) const AT_FIRST: End<'static> = End(
+    Status::Ok,
+    "clerk,age\nJohn,25\nMary,23\nPaula,32\n",
+    "",
+);
 
 const SOLD_AT_FIRST: End<'static> = End(Status::Ok, "item,clerk\nPC,John\nTV,Mary\nVCR,Mary\n", "");
 
@@ -695,7 +699,7 @@ fn is_state(
     Ok(is_first && is_second)
 }
 
-fn is_reached(
+pub(crate) fn is_reached(
     rt: &impl Abort,
     alloc: Global,
     counts: &mut Steps<NoLedger>,
@@ -751,7 +755,7 @@ fn survives(
 }
 
 // The numbers of the calls of the first disk behind those of the load: three to open it, and four for each change.
-const CALLS: &[u64] = &[12, 13, 14, 15, 16, 17, 18, 19, 20, 21, 22];
+pub(crate) const CALLS: &[u64] = &[12, 13, 14, 15, 16, 17, 18, 19, 20, 21, 22];
 
 #[test]
 fn a_crash_leaves_the_first_changes(rt: HostRuntime) -> Result<(), Fail> {

@@ -105,6 +105,18 @@ pub(crate) fn ends(
     Ok(is_end(end, status, &out, &err))
 }
 
+// An empty store, with the calls of its two disks that fail.
+pub(crate) fn empty_store(
+    alloc: Global,
+    first_fails: &[u64],
+    second_fails: &[u64],
+) -> Result<Store, NoMemory> {
+    Ok(Store {
+        first: disk(alloc, b"", first_fails)?,
+        second: disk(alloc, b"", second_fails)?,
+    })
+}
+
 // The store of a story after its last row.
 pub(crate) fn told(
     rt: &impl Abort,
