@@ -16,32 +16,17 @@ use Rattle.wh_base.proofs.RowSets.{has-append, has-filter}
 use Rattle.wh_fit.specs.Differences.{difference, differences}
 use Rattle.wh_fit.specs.Fit.{IsFittingLine}
 use Rattle.wh_fit.proofs.KindLemmas.{fits_from, width_is}
-use Rattle.wh_laws.proofs.Changes.{missing_from, missing_in, repeated_from, repeated_in}
 use Rattle.wh_laws.proofs.Lines.{line_changes}
 use Rattle.wh_laws.proofs.Lists.{Contains-here, Contains-is, map_map, map_same}
 use Rattle.wh_laws.proofs.Pieces.{numbers_from}
 use Rattle.wh_laws.proofs.Reconstruction.{same_rows_sym}
 use Rattle.wh_laws.proofs.Stored.{length_numbers_map, numbers_map_at}
-use Rattle.wh_schema.specs.declared.broken.Broken.{Broken}
-use Rattle.wh_schema.specs.declared.spec.Inclusion.{Inclusion}
 use Rattle.wh_schema.specs.declared.spec.Spec.{Spec}
 use Rattle.wh_schema.specs.Changes.{Line, apply, apply_line}
-use Rattle.wh_schema.specs.Constraints.{breaks, broken, first_break, least_or, missing_values, repeated_keys}
 use Rattle.wh_schema.specs.Legality.{IsState, WellFormed}
 use Rattle.wh_schema.specs.Reconstruction.{order, reconstruct_next, reconstructed, reconstructed_rows}
 use Rattle.wh_schema.specs.Warehouse.{Row, SameState, State, columns_of, numbers, relation_at}
 use Rattle.wh_store.specs.Image.{changed_table, changed_tables, no_delta}
-
--- ---- the first break goes by the rows in order
-
-first_ordered : ℕ → List (List Row) → Option Broken
-first_ordered n [] = None
-first_ordered n (rows ∷ more) = least_or n rows (first_ordered (n + 1) more)
-
-ordered_is : (n : ℕ) (lists : List (List Row)) → first_break n lists ≡ first_ordered n (map in_order lists)
-unfolding first_ordered
-ordered_is n [] = refl
-ordered_is n (rows ∷ more) = ap (least_or n (in_order rows)) (ordered_is (n + 1) more)
 
 -- ---- lines
 
@@ -98,45 +83,6 @@ module _ (spec : Spec) where
     relations = folded_length tables (order spec) (replicate (length spec.relations) []) ∙ length-replicate (length spec.relations) [];
     widths = λ i below x k. st.widths i below x (sym (same i below x) ∙ k);
   }
-
-  -- ---- what is broken
-
-  module _ (wf : WellFormed spec) where
-    repeated_into : (s t : State) → SameState spec s t → (i : ℕ) → i < length spec.relations → (v : Row) → Contains (repeated_keys spec s i) v → Contains (repeated_keys spec t i) v
-    repeated_into s t same i below v k =
-        let r = repeated_from spec s i v k in
-        let into = SameMembers-from (get_or s i []) (get_or t i []) (same i below) in
-        Contains-is _ v (repeated_keys spec t i) r.one_key (repeated_in spec t i r.one r.other ((into r.one).0 r.one_in) ((into r.other).0 r.other_in) r.differ (r.one_key ∙ sym r.other_key))
-
-    missing_into : (s t : State) → SameState spec s t → (c : Inclusion) → Contains spec.inclusions c → (v : Row) → Contains (missing_values spec s c) v → Contains (missing_values spec t c) v
-    missing_into s t same c member v k =
-        let m = missing_from spec s c v k in
-        let left = SameMembers-from (get_or s c.from []) (get_or t c.from []) (same c.from (wf.inclusions c member).left) in
-        let right = SameMembers-from (get_or s c.to []) (get_or t c.to []) (same c.to (wf.inclusions c member).right) in
-        Contains-is _ v (missing_values spec t c) m.value (missing_in spec t c m.row ((left m.row).0 m.is_in) (λ y h e. m.lacks y ((right y).1 h) (e ∙ m.value)))
-
-    back : (s t : State) → SameState spec s t → SameState spec t s
-    back s t same = λ i below. same_rows_sym (get_or s i []) (get_or t i []) (same i below)
-
-    breaks_same : (s t : State) → SameState spec s t → map in_order (breaks spec s) ≡ map in_order (breaks spec t)
-    breaks_same s t same =
-        let n = length spec.relations in
-        let keys : map in_order (map (repeated_keys spec s) (numbers n)) ≡ map in_order (map (repeated_keys spec t) (numbers n)) =
-        map_map in_order (repeated_keys spec s) (numbers n)
-        ∙ map_same (λ i. in_order (repeated_keys spec s i)) (λ i. in_order (repeated_keys spec t i)) (numbers n)
-        (λ i k. let below = numbers_from n i k in in_order-members _ _ (λ v. (repeated_into s t same i below v, repeated_into t s (back s t same) i below v)))
-        ∙ sym (map_map in_order (repeated_keys spec t) (numbers n)) in
-        let values : map in_order (map (missing_values spec s) spec.inclusions) ≡ map in_order (map (missing_values spec t) spec.inclusions) =
-        map_map in_order (missing_values spec s) spec.inclusions
-        ∙ map_same (λ c. in_order (missing_values spec s c)) (λ c. in_order (missing_values spec t c)) spec.inclusions
-        (λ c k. in_order-members _ _ (λ v. (missing_into s t same c k v, missing_into t s (back s t same) c k v)))
-        ∙ sym (map_map in_order (missing_values spec t) spec.inclusions) in
-        map-append in_order (map (repeated_keys spec s) (numbers n)) (map (missing_values spec s) spec.inclusions)
-        ∙ (λ i. keys i ++ values i)
-        ∙ sym (map-append in_order (map (repeated_keys spec t) (numbers n)) (map (missing_values spec t) spec.inclusions))
-
-    pub broken_same : (s t : State) → SameState spec s t → broken spec s ≡ broken spec t
-    broken_same s t same = ordered_is 1 (breaks spec s) ∙ ap (first_ordered 1) (breaks_same s t same) ∙ sym (ordered_is 1 (breaks spec t))
 
 -- ---- differences
 

@@ -31,7 +31,8 @@ use Rattle.wh_store.specs.Commit.{change_body, is_past_limit}
 use Rattle.wh_store.specs.Image.{Active, Image, changed_tables, end_behind, first_over}
 use Rattle.whc.specs.Refresh.{Rejection, accepted, accepted_lines, deleted_count, inserted_count, lines_in, lines_or, over_limit, refreshed_words, taken, taken_by, unless_refused}
 use Rattle.whc.specs.RefreshLaws.{IsAt, Point, body_after, changed_words, if_legal, judged, judged_lines, point_by, status_by, stored_deltas, within_limits, within_rows, words_by}
-use Rattle.whc.proofs.BySets.{broken_same, differences_same, given_state, lead_to, lines_same, lines_state}
+use Rattle.wh_check.proofs.BrokenLemmas.{broken_goes_by_sets}
+use Rattle.whc.proofs.BySets.{differences_same, given_state, lead_to, lines_same, lines_state}
 
 -- ---- the lines of a file fit
 
@@ -107,7 +108,7 @@ module _ (spec : Spec) (p : Point) (generation : ℕ) (legal : LegalState spec p
     stored_is = stored_same spec legal.rules (apply given lines) after (lines_state spec lines given fits given_is) after_is after_same
 
     broken_is : broken spec (apply given lines) ≡ broken spec after
-    broken_is = broken_same spec legal.rules (apply given lines) after after_same
+    broken_is = broken_goes_by_sets spec legal.rules (apply given lines) after after_same
 
     deltas_are : stored_changes image lines ≡ stored_deltas spec p.sources lines
     deltas_are = ap (λ (tables : List (List Row)). differences (stored spec p.sources) tables) stored_is
