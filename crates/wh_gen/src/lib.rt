@@ -1,0 +1,12 @@
+//! Generated cases: a specification of three relations, their dumps and ten change texts, of any size.
+#![tactic(auto)]
+
+mod changes;
+mod dumps;
+mod make;
+mod rows;
+
+pub use make::{Case, make_case};
+
+#[cfg(test)]
+mod tests;
