@@ -1,6 +1,7 @@
 #!/usr/bin/env bash
-# Checks the program that the gate has proved and built, over real files: that the demo prints what the README says, that
-# a store is loaded once, and that a stored table of more than 4,000,000 rows is refused. It takes some seconds.
+# Checks the program that the gate has proved and built, over real files: that the demo prints what the README says and the
+# tour of the bookshop what the tutorial says, that a store is loaded once, and that a stored table of more than 4,000,000
+# rows is refused. It takes some seconds.
 # usage: checks/program.sh [PROGRAM]
 set -eu
 cd "$(dirname "$0")/.."
@@ -28,6 +29,10 @@ run() {
 
 wanted=$(sed -n '/^The gate leaves the proved program/,/^Paula sold nothing/p' README.md | sed -n '/^```$/,/^```$/p' | sed '/^```$/d')
 same "the demo" "$wanted" "$(./demo.sh)"
+
+# The blocks of the tutorial that begin with a command, one after another.
+wanted=$(awk '/^```$/ { inside = !inside; shown = 0; next } inside && !shown { shown = 1; is_tour = /^\$ / } inside && is_tour' docs/tutorial.md)
+same "the tour of the bookshop" "$wanted" "$(examples/bookshop/tour.sh)"
 
 mkdir "$dir/store" "$dir/large" "$dir/dumps"
 same "a load" "$(printf 'status 0\nloaded: tables 3, rows 4')" "$(run "$dir/store" load examples/sales/spec.txt examples/sales/dumps)"
