@@ -7,6 +7,7 @@ use Rattle.wh_plan.specs.Expressions.{view_expr, inverse_expr, key_probes}
 use Rattle.wh_plan.specs.Indexes.{indexes}
 use Rattle.wh_schema.specs.declared.piece.Piece.{Piece}
 use Rattle.wh_schema.specs.declared.spec.Spec.{Spec}
+use Rattle.wh_schema.specs.EmptyMark.{always_empty}
 use Rattle.wh_schema.specs.Reconstruction.{order}
 use Rattle.wh_schema.specs.Warehouse.{numbers, columns_of, pieces, cover_numbers}
 
@@ -23,6 +24,7 @@ plan_of spec = record {
   order = order spec;
   pieces = all_pieces spec;
   covers = map (relation_covers spec) (numbers (length spec.relations));
+  empties = map (always_empty spec) (numbers (length spec.relations));
   view_exprs = map (view_expr spec) (numbers (length spec.views));
   inverse_exprs = map (inverse_expr spec) (numbers (length spec.relations));
   indexes = indexes spec;

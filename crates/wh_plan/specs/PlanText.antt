@@ -1,5 +1,5 @@
 -- The printed text of a plan.
-use Rattle.std.specs.Prelude.{ℕ, ◌+◌, List, ◌++◌, length, get_or, Option, Some, None, codes, decimal}
+use Rattle.std.specs.Prelude.{ℕ, ◌+◌, List, ◌++◌, length, get_or, Bool, true, false, Option, Some, None, codes, decimal}
 use Rattle.std.specs.List.{flat_map}
 use Rattle.wh_base.specs.declared.head.Head.{Head}
 use Rattle.wh_base.specs.Lines.{line, separated_by}
@@ -9,6 +9,7 @@ use Rattle.wh_plan.specs.Plan.{relation_covers}
 use Rattle.wh_query_text.specs.Printed.{name_at, list_mark, expr_text}
 use Rattle.wh_schema.specs.declared.piece.Piece.{Piece}
 use Rattle.wh_schema.specs.declared.spec.Spec.{Spec}
+use Rattle.wh_schema.specs.EmptyMark.{always_empty}
 use Rattle.wh_schema.specs.Heads.{heads_of}
 use Rattle.wh_schema.specs.Reconstruction.{order}
 use Rattle.wh_schema.specs.Warehouse.{numbers, pieces, no_piece}
@@ -31,17 +32,23 @@ cover_line cover = line (codes "cover: " ++ separated_by decimal list_mark cover
 abbrev pub inverse_line : List Head → Expr → List ℕ
 inverse_line heads e = line (codes "inverse: " ++ expr_text heads e)
 
+-- whether the complement is empty in every legal state
+abbrev pub empty_line : Bool → List ℕ
+empty_line true = line (codes "always empty: " ++ codes "yes")
+empty_line false = line (codes "always empty: " ++ codes "no")
+
 abbrev pub probes_line : Option ℕ → List ℕ
 probes_line None = line (codes "key probes: " ++ codes "not stated")
 probes_line (Some n) = line (codes "key probes: " ++ decimal n)
 
--- a relation with its pieces, its covers, its inverse and its number of look-ups
+-- a relation with its pieces, its covers, its inverse, the mark of its complement and its number of look-ups
 abbrev pub relation_lines : Spec → List Head → ℕ → List ℕ
 relation_lines spec heads r =
     line (codes "relation " ++ name_at heads r)
     ++ piece_lines spec heads (pieces spec r)
     ++ flat_map cover_line (relation_covers spec r)
     ++ inverse_line heads (inverse_expr spec r)
+    ++ empty_line (always_empty spec r)
     ++ probes_line (key_probes (pieces spec r))
 
 -- the order, and then each relation

@@ -2,6 +2,7 @@ ghost use Rattle.std.specs.Prelude.{◌≡◌, ◌≤◌, ◌<◌, None, map, le
 ghost use Rattle.wh_covers.specs.Covers.{IsNumbered};
 ghost use Rattle.wh_plan.specs.Expressions.{inverse_expr, key_probes as key_probes_of};
 ghost use Rattle.wh_plan.specs.Plan.{plan_of, all_pieces, relation_covers, too_many, IsPlanFault, IsFaultAt};
+ghost use Rattle.wh_schema.specs.EmptyMark.{always_empty as is_marked};
 ghost use Rattle.wh_schema.specs.Warehouse.{pieces as pieces_of, numbers};
 
 use crate::indexes::indexes;
@@ -9,10 +10,11 @@ use crate::inverse::{inverse_expr, key_probes, view_exprs};
 use crate::order::order;
 use crate::plan::{Exprs, Plan, PlanFault, ProbeBounds};
 use std::alloc::Global;
-use wh_base::{NoMemory, names_of};
+use wh_base::{Flags, NoMemory, names_of};
 use wh_covers::{
     CoverFault, CoverList, CoverLists, PieceLists, Pieces, covers, pieces, relation_at,
 };
+use wh_lossless::always_empty;
 use wh_schema::Spec;
 
 /// The covers of a relation.
@@ -37,6 +39,17 @@ fn planned_covers(
         }
         Err(CoverFault::NoMemory) => Err(PlanFault::NoMemory),
     }
+}
+
+fn all_empties(alloc: Global, spec: &Spec) -> Result<Flags, NoMemory>
+    requires { IsNumbered spec.now }
+    ensures { IfOk result (λ empties. empties ≡ map (is_marked spec.now) (numbers (length spec.now.relations))) }
+{
+    let mut empties = Flags::new(alloc);
+    for relation in 0..spec.relations.len() as u32 {
+        empties.push(always_empty(alloc, spec, relation)?)?;
+    }
+    Ok(empties)
 }
 
 fn inverse_exprs(
@@ -87,6 +100,7 @@ pub fn make_plan(alloc: Global, spec: Spec) -> Result<Plan, PlanFault>
     }
     Ok(Plan {
         order: order(alloc, &spec)?,
+        empties: all_empties(alloc, &spec)?,
         view_exprs: view_exprs(alloc, &spec)?,
         inverse_exprs: inverse_exprs(alloc, &spec, &piece_lists, &cover_lists)?,
         indexes: indexes(alloc, &spec)?,

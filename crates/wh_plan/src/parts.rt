@@ -1,6 +1,7 @@
 ghost use Rattle.std.specs.Prelude.{◌≡◌, ◌<◌, length};
 ghost use Rattle.wh_plan.specs.Expressions.{view_expr, inverse_expr, key_probes};
 ghost use Rattle.wh_plan.specs.Plan.{IsPlan, relation_covers};
+ghost use Rattle.wh_schema.specs.EmptyMark.{always_empty};
 ghost use Rattle.wh_schema.specs.Warehouse.{pieces as pieces_of};
 
 use crate::plan::Plan;
@@ -24,6 +25,15 @@ impl Plan {
         ensures { result.now ≡ relation_covers self.now.spec relation }
     {
         &self.covers.as_slice()[relation as usize]
+    }
+
+    /// Whether the complement of a relation is empty in every legal state by the mark of `wh_lossless`.
+    pub fn is_always_empty(&self, relation: u32) -> bool
+        requires plan { IsPlan self.now }
+        requires relation { relation < length self.now.spec.relations }
+        ensures { result ≡ always_empty self.now.spec relation }
+    {
+        self.empties.as_slice()[relation as usize]
     }
 
     /// The expression of a view over its relations.

@@ -1,4 +1,4 @@
-use wh_base::{ColumnSets, NoMemory, Places, Sequence};
+use wh_base::{ColumnSets, Flags, NoMemory, Places, Sequence};
 use wh_covers::{CoverLists, PieceLists};
 use wh_expr::Expr;
 use wh_schema::Spec;
@@ -20,6 +20,8 @@ pub struct Plan {
     pub pieces: PieceLists,
     /// Of each relation its covers, as numbers of its pieces from 1.
     pub covers: CoverLists,
+    /// Of each relation whether its complement is empty in every legal state by the mark of `wh_lossless`.
+    pub empties: Flags,
     /// Of each view its expression over the relations.
     pub view_exprs: Exprs,
     /// Of each relation its expression over its complement, the views and the relations before it in the order.

@@ -5,7 +5,7 @@ ghost use Rattle.wh_base.specs.Lines.{line, separated_by};
 ghost use Rattle.wh_covers.specs.Covers.{IsNumbered};
 ghost use Rattle.wh_plan.specs.Held.{AreHeld};
 ghost use Rattle.wh_plan.specs.Plan.{IsPlan, relation_covers};
-ghost use Rattle.wh_plan.specs.PlanText.{order_line, piece_line, piece_lines, cover_line, inverse_line, probes_line, relation_lines, plan_text};
+ghost use Rattle.wh_plan.specs.PlanText.{order_line, piece_line, piece_lines, cover_line, inverse_line, empty_line, probes_line, relation_lines, plan_text};
 ghost use Rattle.wh_query_text.specs.Printed.{name_at as name_of, list_mark};
 ghost use Rattle.wh_schema.specs.Heads.{heads_of};
 ghost use Rattle.wh_schema.specs.Reconstruction.{order};
@@ -161,6 +161,16 @@ fn put_count(out: &mut ByteText, title: &[u8], count: u64) -> Result<(), NoMemor
     put_line(out, title, buffer.format(count).as_bytes())
 }
 
+fn put_empty(out: &mut ByteText, is_empty: bool) -> Result<(), NoMemory>
+    ensures { OnOk result (out.new.bytes ≡ out.old.bytes ++ empty_line is_empty) }
+{
+    if is_empty {
+        put_line(out, b"always empty: ", b"yes")
+    } else {
+        put_line(out, b"always empty: ", b"no")
+    }
+}
+
 fn put_probes(out: &mut ByteText, probes: Option<u64>) -> Result<(), NoMemory>
     ensures { OnOk result (out.new.bytes ≡ out.old.bytes ++ probes_line probes) }
 {
@@ -187,6 +197,7 @@ fn put_relation(
     put_pieces(alloc, out, &plan.spec, heads, pieces)?;
     put_covers(out, plan.covers_of(relation).as_slice())?;
     put_inverse(alloc, out, heads, plan.inverse_of(relation))?;
+    put_empty(out, plan.is_always_empty(relation))?;
     put_probes(out, plan.key_probes_of(relation))
 }
 
@@ -218,7 +229,7 @@ fn plan_text(alloc: Global, plan: &Plan) -> Result<ByteText, NoMemory>
     Ok(text)
 }
 
-/// Appends the text of a plan: the order of the relations, and of each relation its pieces, its covers, its inverse and its number of look-ups.
+/// Appends the text of a plan: the order of the relations, and of each relation its pieces, its covers, its inverse, the mark of its complement and its number of look-ups.
 pub fn print_plan(alloc: Global, p: &Plan, out: &mut ByteText) -> Result<(), NoMemory>
     requires plan { IsPlan p.now }
     requires numbered { IsNumbered p.now.spec }

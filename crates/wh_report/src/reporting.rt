@@ -3,6 +3,7 @@ ghost use Rattle.std.specs.List.{flat_map};
 ghost use Rattle.wh_answer.specs.Answer.{rows_of};
 ghost use Rattle.wh_covers.specs.Covers.{IsNumbered};
 ghost use Rattle.wh_eval.specs.Lists.{HasDistinctRows};
+ghost use Rattle.wh_plan.specs.Plan.{IsPlan};
 ghost use Rattle.wh_report.specs.Report.{complement_line, counted, mark as mark_of, parts_beside, refreshes_line, relation_line, report_over, report_text, rows_at, totals_line, view_line};
 ghost use Rattle.wh_schema.specs.EmptyMark.{always_empty as is_marked};
 ghost use Rattle.wh_schema.specs.Warehouse.{numbers, relation_at, view_at};
@@ -14,7 +15,7 @@ use crate::held::held_relations;
 use itoa::Buffer;
 use std::alloc::Global;
 use wh_base::{ByteText, Name, NoMemory, State};
-use wh_lossless::always_empty;
+use wh_plan::Plan;
 use wh_schema::Spec;
 use wh_steps::{Ledger, Steps};
 use wh_store::Warehouse;
@@ -64,7 +65,7 @@ fn report_of(alloc: Global, w: &Warehouse, relations: &State) -> Result<ByteText
     let mut text = ByteText::new(alloc);
     put_refreshes(&mut text, w.seq)?;
     put_views(&mut text, spec, &w.tables)?;
-    put_complements(alloc, &mut text, spec, &w.tables)?;
+    put_complements(&mut text, &w.plan, &w.tables)?;
     put_relations(&mut text, spec, relations)?;
     put_totals(&mut text, stored_total(&w.tables), sources_total(relations))?;
     Ok(text)
@@ -142,45 +143,44 @@ fn put_views(text: &mut ByteText, spec: &Spec, tables: &Tables) -> Result<(), No
 }
 
 /// Tells of a relation whose complement is empty in every legal state.
-fn put_mark(alloc: Global, text: &mut ByteText, spec: &Spec, rel: u32) -> Result<(), NoMemory>
-    ensures { OnOk result (text.new.bytes ≡ text.old.bytes ++ mark_of (is_marked spec.now rel)) }
+fn put_mark(text: &mut ByteText, plan: &Plan, rel: u32) -> Result<(), NoMemory>
+    requires plan { IsPlan plan.now }
+    requires relation { rel < length plan.now.spec.relations }
+    ensures { OnOk result (text.new.bytes ≡ text.old.bytes ++ mark_of (is_marked plan.now.spec rel)) }
 {
-    if always_empty(alloc, spec, rel)? {
+    if plan.is_always_empty(rel) {
         text.append(b" always empty")?;
     }
     Ok(())
 }
 
 fn put_complement(
-    alloc: Global,
     text: &mut ByteText,
-    spec: &Spec,
+    plan: &Plan,
     tables: &Tables,
     rel: u32,
 ) -> Result<(), NoMemory>
-    requires relation { rel < length spec.now.relations }
-    requires numbered { IsNumbered spec.now }
-    requires count { length tables.now ≡ table_count spec.now }
-    ensures { OnOk result (text.new.bytes ≡ text.old.bytes ++ complement_line spec.now (λ r. rows_at (rows_of tables.now) (length spec.now.views + r)) rel) }
+    requires plan { IsPlan plan.now }
+    requires relation { rel < length plan.now.spec.relations }
+    requires numbered { IsNumbered plan.now.spec }
+    requires count { length tables.now ≡ table_count plan.now.spec }
+    ensures { OnOk result (text.new.bytes ≡ text.old.bytes ++ complement_line plan.now.spec (λ r. rows_at (rows_of tables.now) (length plan.now.spec.views + r)) rel) }
 {
+    let spec = &plan.spec;
     let rows = stored_count(tables, spec.views.len() + rel as usize);
     put_counted(text, b"complement", relation_name(spec, rel as usize), rows)?;
-    put_mark(alloc, text, spec, rel)?;
+    put_mark(text, plan, rel)?;
     text.push(b'\n')
 }
 
-fn put_complements(
-    alloc: Global,
-    text: &mut ByteText,
-    spec: &Spec,
-    tables: &Tables,
-) -> Result<(), NoMemory>
-    requires numbered { IsNumbered spec.now }
-    requires count { length tables.now ≡ table_count spec.now }
-    ensures { OnOk result (text.new.bytes ≡ text.old.bytes ++ flat_map (complement_line spec.now (λ r. rows_at (rows_of tables.now) (length spec.now.views + r))) (numbers (length spec.now.relations))) }
+fn put_complements(text: &mut ByteText, plan: &Plan, tables: &Tables) -> Result<(), NoMemory>
+    requires plan { IsPlan plan.now }
+    requires numbered { IsNumbered plan.now.spec }
+    requires count { length tables.now ≡ table_count plan.now.spec }
+    ensures { OnOk result (text.new.bytes ≡ text.old.bytes ++ flat_map (complement_line plan.now.spec (λ r. rows_at (rows_of tables.now) (length plan.now.spec.views + r))) (numbers (length plan.now.spec.relations))) }
 {
-    for rel in 0..spec.relations.len() as u32 {
-        put_complement(alloc, text, spec, tables, rel)?;
+    for rel in 0..plan.spec.relations.len() as u32 {
+        put_complement(text, plan, tables, rel)?;
     }
     Ok(())
 }

@@ -6,4 +6,4 @@ use Rattle.wh_report.specs.Report.{complement_line, rows_at}
 use Rattle.wh_report.proofs.reporting.put_complements.Given as goal
 
 abbrev pub invariant-loop-rel : goal.invariant-loop-rel
-invariant-loop-rel l = l.text.bytes ≡ l.initial.text.bytes ++ flat_map (complement_line l.spec (λ r. rows_at (rows_of l.tables) (length l.spec.views + r))) (numbers l.rel)
+invariant-loop-rel l = l.text.bytes ≡ l.initial.text.bytes ++ flat_map (complement_line l.plan.spec (λ r. rows_at (rows_of l.tables) (length l.plan.spec.views + r))) (numbers l.rel)
