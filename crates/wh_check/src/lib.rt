@@ -5,8 +5,6 @@ mod broken;
 mod laws;
 mod net;
 mod sources;
-#[cfg(test)]
-mod tests;
 
 pub use broken::first_broken;
 pub use laws::{broken_goes_by_sets, net_effect_leads_there};

@@ -9,7 +9,6 @@ pub mod GivenLemmas
 pub mod PieceLemmas
 pub mod Places
 pub mod PlanFacts
-pub mod SpecRules
 pub mod StoredSets
 pub mod Tests
 pub mod UsesLemmas

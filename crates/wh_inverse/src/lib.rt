@@ -12,6 +12,3 @@ mod walk;
 pub use inverse::Inverse;
 pub use laws::inverse_gives_state;
 pub use planned::have_keys;
-
-#[cfg(test)]
-mod look_up_tests;

@@ -2,8 +2,8 @@ mod Allowed
 pub mod Alone
 pub mod ChangedTables
 mod CommitLemmas
+mod CreateLemmas
 pub mod FirstByte
-mod FirstRow
 pub mod FrameLemmas
 mod FrameOrder
 pub mod HeldValues

@@ -23,8 +23,3 @@ pub use held_laws::{changed_tables_hold_values, held_is_stored};
 pub use opening::open_store;
 pub use ready::Ready;
 pub use warehouse::{NetChange, Place, Warehouse, Which};
-
-#[cfg(test)]
-mod commit_tests;
-#[cfg(test)]
-mod tests;

@@ -3,10 +3,14 @@ use Rattle.wh_base.specs.declared.value.Value.{Value}
 use Rattle.wh_journal.specs.declared.journal.Journal.{Journal}
 use Rattle.wh_journal.proofs.Framing.{length-framed}
 use Rattle.wh_plan.specs.declared.plan.Plan.{Plan}
+use Rattle.wh_journal.specs.File.{framed}
 use Rattle.wh_store.specs.Store.{loaded_body}
 use Rattle.wh_store.specs.Warehouse.{HasRows}
+use Rattle.wh_store.specs.Opening.{AreSpelledTables}
 use Rattle.wh_store.proofs.Alone.{created_leaves}
+use Rattle.wh_store.proofs.CreateLemmas.{created, settled_still, written}
 use Rattle.wh_store.proofs.Loaded.{alone_holds, spelled_snapshot}
+use Rattle.wh_store.proofs.SpelledTables.{tables_values}
 use Rattle.wh_store.proofs.creation.create.Goals as goal
 
 pub returns-in_err-journal-clause-any_moment : goal.returns-in_err-journal-clause-any_moment
@@ -53,3 +57,19 @@ returns-clause-made g c =
         live = refl;
       };
     }
+
+pub returns-in_err-both_empty-clause-second_durable : goal.returns-in_err-both_empty-clause-second_durable
+returns-in_err-both_empty-clause-second_durable g c =
+    let moments = c.both_empty.ensures.second_moments in
+    settled_still _ _ _ _ c.both_empty.ensures.second_same (λ image left. moments.each image (g.met.D.Disk.counts_now _ _ image moments.later left))
+
+pub warehouse_of-requires-clause-spelled : goal.warehouse_of-requires-clause-spelled
+warehouse_of-requires-clause-spelled g c = subst AreSpelledTables (sym c.in_ok-framed.ensures.tables) (tables_values c.args.rows c.requires.spelled)
+
+pub returns-clause-answer : goal.returns-clause-answer
+returns-clause-answer g c =
+    created c.args.plan.spec c.args.rows _ _ _ c.in_ok-both_empty.ensures.empty c.if-not-branch.false c.in_ok-framed.ensures.few c.in_ok-framed.ensures.small
+
+pub returns-clause-file : goal.returns-clause-file
+returns-clause-file g c =
+    written _ _ _ _ _ c.in_ok-both_empty.ensures.first_same c.in_ok-journal.ensures.file (ap (λ (body : List ℕ). 1 ∷ framed body) c.in_ok-framed.ensures.frame)

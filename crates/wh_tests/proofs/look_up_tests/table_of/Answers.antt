@@ -7,7 +7,7 @@ use Rattle.wh_plan.specs.Indexes.{indexes}
 use Rattle.wh_schema.specs.Heads.{heads_of}
 use Rattle.wh_table.specs.Table.{IsColumnSet}
 use Rattle.wh_inverse.proofs.StoredSets.{sets_fit, table_fits}
-use Rattle.wh_inverse.proofs.look_up_tests.table_of.Goals as goal
+use Rattle.wh_tests.proofs.look_up_tests.table_of.Goals as goal
 
 pub filled-requires-clause-sets : goal.filled-requires-clause-sets
 filled-requires-clause-sets c =

@@ -2,7 +2,7 @@ use Rattle.std.proofs.Common.{◌∙◌, ap}
 use Rattle.wh_base.specs.declared.value.Delta.{Delta}
 use Rattle.wh_table.specs.Table.{IndexedRows}
 use Rattle.wh_inverse.proofs.StoredSets.{fresh_applies}
-use Rattle.wh_inverse.proofs.look_up_tests.filled.Goals as goal
+use Rattle.wh_tests.proofs.look_up_tests.filled.Goals as goal
 
 pub apply-requires-clause-fits : goal.apply-requires-clause-fits
 apply-requires-clause-fits c =

@@ -12,7 +12,6 @@ ghost use Rattle.wh_schema.specs.Heads.{heads_of};
 ghost use Rattle.wh_schema.specs.Legality.{WellFormed};
 ghost use Rattle.wh_table.specs.Table.{IsColumnSet};
 
-use super::*;
 use std::alloc::Global;
 use std::test::*;
 use wh_base::{
@@ -21,6 +20,7 @@ use wh_base::{
 };
 use wh_eval::{Base, Stored, eval_where};
 use wh_expr::Expr;
+use wh_inverse::{Inverse, have_keys};
 use wh_plan::{Plan, make_plan};
 use wh_schema::{Spec, heads};
 use wh_spec_text::parse_spec;
@@ -111,7 +111,7 @@ fn rows(alloc: Global, listed: &[Listed<'_>]) -> Result<Rows, NoMemory>
     distinct_rows(alloc, rows)
 }
 
-#[tactic(auto, using(crate::proofs::StoredSets::get_or_none))]
+#[tactic(auto, using(wh_inverse::proofs::StoredSets::get_or_none))]
 fn sets_at(alloc: Global, plan: &Plan, k: usize) -> Result<ColumnSets, NoMemory>
     ensures { IfOk result (λ sets. sets ≡ get_or plan.now.indexes k []) }
 {

@@ -4,7 +4,7 @@ use Rattle.wh_fit.specs.Fit.{as_line}
 use Rattle.wh_store.specs.Image.{apply_to}
 use Rattle.wh_check.specs.Check.{held_sources}
 use Rattle.wh_check.proofs.NetLemmas.{net_applies}
-use Rattle.wh_check.proofs.tests.broken_after.Goals as goal
+use Rattle.wh_tests.proofs.change_tests.broken_after.Goals as goal
 
 pub first_broken-requires-clause-deltas : goal.first_broken-requires-clause-deltas
 first_broken-requires-clause-deltas c = λ i is.

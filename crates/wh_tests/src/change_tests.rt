@@ -4,10 +4,10 @@ ghost use Rattle.std.specs.List.{AllByRecursion};
 ghost use Rattle.wh_csv.specs.declared.change.Line as csv;
 ghost use Rattle.wh_store.specs.Warehouse.{IsInForm};
 
-use crate::{effective, first_broken};
 use std::alloc::Global;
 use std::test::Fail;
 use wh_base::{ByteText, NoMemory, Numbers, Value};
+use wh_check::{effective, first_broken};
 use wh_csv::{Change, read_change};
 use wh_io::MemDisk;
 use wh_schema::Broken;

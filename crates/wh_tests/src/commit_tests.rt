@@ -1,7 +1,6 @@
 ghost use Rattle.std.specs.Prelude.{◌≡◌, [], ◌∷◌, IfOk, pos};
 ghost use Rattle.wh_base.specs.declared.value.Value.TheVariants.{Int};
 
-use super::*;
 use std::alloc::Global;
 use std::test::*;
 use wh_base::{ByteText, ColumnSets, Delta, NoMemory, Numbers, Row, Rows, StoredDeltas, Value};
@@ -9,6 +8,7 @@ use wh_io::{Disk, MemDisk};
 use wh_journal::{Found, Journal, recover};
 use wh_plan::make_plan;
 use wh_spec_text::parse_spec;
+use wh_store::{Place, StoreFault, Warehouse, Which};
 use wh_table::{Table, Tables};
 
 const SPEC: &[u8] = b"relation R(k int) key (k);\n";

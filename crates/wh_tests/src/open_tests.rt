@@ -1,8 +1,8 @@
-use super::*;
 use std::alloc::Global;
 use std::test::*;
 use wh_base::{ByteText, NoMemory, Numbers};
 use wh_io::MemDisk;
+use wh_store::{StoreFault, Which, both_empty, open_store};
 
 // The store of `relation R(k int) key (k);` with no row: a frame of 65 bytes, and a closed mark.
 const FILE: &[u8] = b"\x01\x00\x00\x00\x00\x00\x00\x00\x38\

@@ -1,6 +1,6 @@
 use Rattle.std.proofs.Common.{rules}
-use Rattle.wh_store.proofs.FirstRow.{can_apply_five, five_is_spelled}
-use Rattle.wh_store.proofs.commit_tests.commit_change.Goals as goal
+use Rattle.wh_tests.proofs.FirstRow.{can_apply_five, five_is_spelled}
+use Rattle.wh_tests.proofs.commit_tests.commit_change.Goals as goal
 
 pub ready-requires-clause-applies : goal.ready-requires-clause-applies
 ready-requires-clause-applies g c = search (rules, can_apply_five)

@@ -3,7 +3,7 @@ use Rattle.wh_eval.specs.Stored.{FitHeads}
 use Rattle.wh_inverse.proofs.StoredSets.{heads_count, three_fit, three_indexed}
 use Rattle.wh_table.specs.Table.{IndexedRows}
 use Rattle.wh_inverse.specs.Inverse.{HaveIndexes}
-use Rattle.wh_inverse.proofs.look_up_tests.tables_of.Goals as goal
+use Rattle.wh_tests.proofs.look_up_tests.tables_of.Goals as goal
 
 pub returns-clause-fits : goal.returns-clause-fits
 returns-clause-fits c =

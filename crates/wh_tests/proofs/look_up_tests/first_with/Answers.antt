@@ -2,7 +2,7 @@ use Rattle.std.proofs.Common.{◌≡◌, true, rules}
 use Rattle.wh_base.specs.Columns.{all_in}
 use Rattle.wh_base.specs.Heads.{columns_at}
 use Rattle.wh_inverse.proofs.StoredSets.{one_indexed}
-use Rattle.wh_inverse.proofs.look_up_tests.first_with.Goals as goal
+use Rattle.wh_tests.proofs.look_up_tests.first_with.Goals as goal
 
 pub first_where-requires-clause-indexed : goal.first_where-requires-clause-indexed
 first_where-requires-clause-indexed g c =
