@@ -1,3 +1,4 @@
 pub mod Case
+pub mod Files
 pub mod Texts
 pub mod Worked

@@ -1,9 +1,10 @@
--- Texts of small cases, worked by hand.
-use Rattle.std.specs.Prelude.{◌≡◌, refl, ℕ, List, [], ◌∷◌, codes}
+-- Texts of small cases, worked by hand, and the files of any case.
+use Rattle.std.specs.Prelude.{◌≡◌, refl, ℕ, List, [], ◌∷◌, None, Some, codes}
 use Rattle.std.specs.Fmt.{digits}
 use Rattle.std.specs.List.{flat_map}
 use Rattle.wh_base.specs.Lines.{line, csv_record}
-use Rattle.wh_gen.specs.Case.{dept_dump, emp_dump, task_dump, emp_row, task_row, change_text}
+use Rattle.wh_gen.specs.Case.{dept_dump, emp_dump, task_dump, emp_row, task_row, change_text, made_case, spec_text}
+use Rattle.wh_gen.specs.Files.{case_held}
 
 abbrev lines : List (List ℕ) → List ℕ
 lines = flat_map line
@@ -40,3 +41,20 @@ a_task = refl
 pub a_change_of_ten : change_text 3 10 2 ≡ lines (codes "+,Task,22,2,25" ∷ codes "-,Task,2,5,9" ∷ codes "+,Task,23,3,26" ∷ codes "-,Task,3,6,12" ∷ [])
 unfolding digits
 a_change_of_ten = refl
+
+-- ---- files
+
+pub the_specification : (q n : ℕ) → case_held (made_case q n) (codes "spec") ≡ Some spec_text
+the_specification q n = refl
+
+pub a_dump_file : (q n : ℕ) → case_held (made_case q n) (codes "case/Emp.csv") ≡ Some (emp_dump q n)
+a_dump_file q n = refl
+
+pub the_first_change_file : (q n : ℕ) → case_held (made_case q n) (codes "change-1") ≡ Some (change_text q n 1)
+the_first_change_file q n = refl
+
+pub the_last_change_file : (q n : ℕ) → case_held (made_case q n) (codes "change-10") ≡ Some (change_text q n 10)
+the_last_change_file q n = refl
+
+pub no_other_file : (q n : ℕ) → case_held (made_case q n) (codes "change-11") ≡ None
+no_other_file q n = refl

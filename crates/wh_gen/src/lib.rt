@@ -3,9 +3,11 @@
 
 mod changes;
 mod dumps;
+mod files;
 mod make;
 mod rows;
 
+pub use files::{CaseFiles, change_names};
 pub use make::{Case, make_case};
 
 #[cfg(test)]
