@@ -1,30 +1,40 @@
--- What `query` and `dump` have printed after Ok, over the state that the store stands for.
-use Rattle.std.proofs.Common.{◌≡◌, ℕ, ◌<◌, Bool, true, false, cond, nat_lt, List, length, append-nil, Option, None, Some, Result, Ok, Err, refl, sym, ◌∙◌, ap, subst, arith}
+-- What `query`, `dump`, `report` and `audit` have printed after Ok, over the state that the store stands for.
+use Rattle.std.proofs.Common.{◌≡◌, ℕ, ◌<◌, Bool, true, false, cond, nat_lt, List, [], length, append-nil, Option, None, Some, Result, Ok, Err, refl, sym, ◌∙◌, ap, subst, arith}
 use Rattle.std.specs.List.{position, position_or_len}
 use Rattle.std.proofs.lemmas.Bool.Decides.{nat_tests}
 use Rattle.wh_base.specs.Columns.{name_eq}
+use Rattle.wh_base.specs.RowSet.{SameRows}
+use Rattle.wh_io.specs.Files.{Held}
 use Rattle.wh_io.specs.Sink.{gained}
+use Rattle.wh_laws.proofs.Reconstruction.{reconstruction_gives, same_rows_is}
+use Rattle.wh_laws.specs.Laws.{LegalState}
 use Rattle.wh_query_text.specs.declared.fault.QueryFault.{QueryFault}
 use Rattle.wh_query_text.specs.declared.parsing.Query.{Query}
 use Rattle.wh_query_text.specs.QueryTexts.{query_of_text}
 use Rattle.wh_schema.specs.declared.spec.Relation.{Relation}
 use Rattle.wh_schema.specs.declared.spec.Spec.{Spec}
+use Rattle.wh_schema.specs.Reconstruction.{reconstructed}
 use Rattle.wh_schema.specs.Warehouse.{Row, State, relation_at, stored}
+use Rattle.wh_report.specs.Audit.{audit_over, audit_text}
+use Rattle.wh_report.specs.Report.{report_text, rows_at}
+use Rattle.wh_report.proofs.AuditLemmas.{audits_are_of_state, same_rows_are_silent}
+use Rattle.wh_report.proofs.ReportLemmas.{reports_are_of_state}
 use Rattle.wh_store.specs.Image.{Image, Holding}
 use Rattle.wh_answer.specs.Answer.{IsOverSources, answer_text, state_rows, text_over}
 use Rattle.wh_answer.proofs.AnswerLemmas.{answers_are_of_state}
 use Rattle.wh_answer.proofs.QuerySources.{queries_are_over_sources, relation_is_over_sources}
-use Rattle.whc.specs.declared.status.Status.{Status}
-use Rattle.whc.specs.declared.status.Status.TheVariants as status
-use Rattle.whc.specs.declared.stop.Stop.{Stop}
-use Rattle.whc.specs.Ask.{answer_in, answered, asking, found_or, query_in, query_or_fault, relation_in, relation_named, relation_place, relation_query}
-use Rattle.whc.specs.AskLaws.{DumpPrintsRelation, QueryPrintsAnswer, StandsFor, dump_words, query_words}
-use Rattle.whc.specs.Commands.{query, dump}
-use Rattle.whc.specs.Disks.{BothRest, BothLeave}
-use Rattle.whc.specs.Ends.{Ends}
-use Rattle.whc.specs.Inputs.{and_then}
-use Rattle.whc.specs.Outcome.{texts}
-use Rattle.whc.specs.Run.{View, Scene, Reports}
+use Rattle.wh_command.specs.declared.status.Status.{Status}
+use Rattle.wh_command.specs.declared.status.Status.TheVariants as status
+use Rattle.wh_command.specs.declared.stop.Stop.{Stop}
+use Rattle.wh_command.specs.Ask.{answer_in, answered, asking, found_or, query_in, query_or_fault, relation_in, relation_named, relation_place, relation_query}
+use Rattle.whc.specs.AskLaws.{AuditPrintsChange, DumpPrintsRelation, PrintsChange, QueryPrintsAnswer, ReportPrintsState, StandsFor, audit_words, dump_words, query_words, report_words}
+use Rattle.wh_command.specs.Commands.{query, dump, audit, report}
+use Rattle.wh_command.specs.Disks.{BothRest, BothLeave}
+use Rattle.wh_command.specs.Ends.{Ends}
+use Rattle.wh_command.specs.Inputs.{and_then}
+use Rattle.wh_command.specs.Outcome.{texts}
+use Rattle.wh_command.specs.Report.{audited, audited_at, audited_in, file_rows, reported}
+use Rattle.wh_command.specs.Run.{View, Scene, Reports}
 use Rattle.whc.proofs.Follows.{finishes_of, over_disks}
 use Rattle.whc.proofs.Shown.{never_ok}
 
@@ -101,6 +111,41 @@ named_from spec word (Some r) q place is = record {
 }
 named_from spec word None q place is = absurd (cc (is))
 
+-- ---- the change that an audit tells
+
+named_place : (word : List ℕ) (o : Option ℕ) (r : ℕ) → found_or word o ≡ Ok r → o ≡ Some r
+named_place word (Some p) r is = cc (is)
+named_place word None r is = absurd (cc (is))
+
+named_within : (spec : Spec) (word : List ℕ) (r : ℕ) → relation_named spec word ≡ Ok r → r < length spec.relations
+named_within spec word r is = place_within (λ t. name_eq t.name word) spec.relations r (named_place word (relation_place word spec.relations) r is)
+
+record Audited (held : Held) (word file : List ℕ) (image : Image) (text : List ℕ) : Type 0 where
+  pub relation : ℕ
+  pub relation_is : relation_named image.spec word ≡ Ok relation
+  pub rows : List Row
+  pub rows_are : file_rows held file (relation_at image.spec relation) ≡ Ok rows
+  pub text_is : text ≡ audit_text image relation rows
+
+module _ (held : Held) (word file : List ℕ) (image : Image) (text : List ℕ) where
+  by_rows : (r : ℕ) (o : Result (List Row) Stop) → relation_named image.spec word ≡ Ok r → file_rows held file (relation_at image.spec r) ≡ o → and_then o (λ (rows : List Row). Ok (audit_text image r rows)) ≡ Ok text → Audited held word file image text
+  by_rows r (Ok rows) named read is = record { relation = r; relation_is = named; rows = rows; rows_are = read; text_is = cc (is) }
+  by_rows r (Err stop) named read is = absurd (cc (is))
+
+  by_name : (o : Result ℕ Stop) → relation_named image.spec word ≡ o → and_then o (audited_at held file image) ≡ Ok text → Audited held word file image text
+  by_name (Ok r) named is = by_rows r (file_rows held file (relation_at image.spec r)) named refl is
+  by_name (Err stop) named is = absurd (cc (is))
+
+-- an audit over the state is silent exactly where the relation has the rows
+silent_over : (image : Image) (spec : Spec) (s : State) (r : ℕ) (rows : List Row) → LegalState spec s → image.spec ≡ spec → image.tables ≡ stored spec s → r < length spec.relations
+    → ((audit_over spec r (rows_at s r) rows ≡ []) → SameRows (rows_at s r) rows) × (SameRows (rows_at s r) rows → audit_over spec r (rows_at s r) rows ≡ [])
+silent_over image spec s r rows legal spec_is tables within =
+    let over = audits_are_of_state image spec s r rows legal spec_is tables within in
+    let quiet = same_rows_are_silent image r rows in
+    let given : SameRows (rows_at (reconstructed spec (stored spec s)) r) (rows_at s r) = reconstruction_gives spec s legal.rules legal.state legal.legal (stored spec s) (λ k. same_rows_is _ _ refl) r within in
+    let here : SameRows (rows_at (reconstructed image.spec image.tables) r) (rows_at s r) = subst (λ (t : Spec). SameRows (rows_at (reconstructed t image.tables) r) (rows_at s r)) (sym spec_is) (subst (λ (t : List (List Row)). SameRows (rows_at (reconstructed spec t) r) (rows_at s r)) (sym tables) given) in
+    (λ none row. sym (here row) ∙ quiet.0 (over ∙ none) row, λ same. sym over ∙ quiet.1 (λ row. here row ∙ same row))
+
 -- ---- the laws
 
 module _ {D : Type 0} (content : D → Option (List ℕ)) (faults : D → ℕ) (images : D → List ℕ → Type 0) where
@@ -133,4 +178,37 @@ module _ {D : Type 0} (content : D → Option (List ℕ)) (faults : D → ℕ) (
         relation = m.relation;
         relation_is = m.relation_is;
         printed = p.printed ∙ ap (gained before.view.out) (a.text_is ∙ answers_are_of_state spec s a.q for.stands.legal over ∙ ap (text_over spec (state_rows spec s)) m.query_is);
+      }
+
+  pub report_prints_state : ReportPrintsState content faults images
+  report_prints_state held spec s n before after told for answers =
+      let ends = finishes_of content faults images report_words report before after status.Ok refl answers in
+      let p =
+      by_finish before after for.state (reported for.state) (BothRest content images after.view.first after.view.second) (BothLeave images after.view.first after.view.second) answers.finish
+      (over_disks content images report held for.state before.view after.view answers.finish told ends for.rest) answers.reports in
+      let image = for.stands.active.image in
+      let here : reported (Ok (Some for.stands.active)) ≡ Ok p.text = sym (ap reported (sym for.rest.is ∙ for.stands.holds)) ∙ p.is in
+      let text_is : p.text ≡ report_text image = cc (here) in
+      p.printed ∙ ap (gained before.view.out) (text_is ∙ reports_are_of_state image spec s n for.stands.legal for.stands.spec_is for.stands.tables for.stands.seq)
+
+  pub audit_prints_change : AuditPrintsChange content faults images
+  audit_prints_change word file held spec s n before after told for answers =
+      let command = audit word file in
+      let ends = finishes_of content faults images (audit_words word file) command before after status.Ok refl answers in
+      let p =
+      by_finish before after for.state (audited held word file for.state) (BothRest content images after.view.first after.view.second) (BothLeave images after.view.first after.view.second) answers.finish
+      (over_disks content images command held for.state before.view after.view answers.finish told ends for.rest) answers.reports in
+      let image = for.stands.active.image in
+      let here : audited_in held word file image ≡ Ok p.text = sym (ap (audited held word file) (sym for.rest.is ∙ for.stands.holds)) ∙ p.is in
+      let a = by_name held word file image p.text (relation_named image.spec word) refl here in
+      let spec_is = for.stands.spec_is in
+      let relation_is : relation_named spec word ≡ Ok a.relation = ap (λ (t : Spec). relation_named t word) (sym spec_is) ∙ a.relation_is in
+      let within = named_within spec word a.relation relation_is in
+      record {
+        relation = a.relation;
+        relation_is = relation_is;
+        rows = a.rows;
+        rows_are = ap (λ (t : Spec). file_rows held file (relation_at t a.relation)) (sym spec_is) ∙ a.rows_are;
+        printed = p.printed ∙ ap (gained before.view.out) (a.text_is ∙ audits_are_of_state image spec s a.relation a.rows for.stands.legal spec_is for.stands.tables within);
+        silent = silent_over image spec s a.relation a.rows for.stands.legal spec_is for.stands.tables within;
       }

@@ -3,29 +3,33 @@ use Rattle.std.proofs.Common.{rules, ◌≡◌, ◌⊎◌, inl, inr, ⊎_elim, �
 use Rattle.std.proofs.lemmas.List.{take-append-drop, take_all}
 use Rattle.std.proofs.lemmas.Grind.{flat_map-append}
 use Rattle.wh_io.specs.Causes.{IsCounted, IsCountedPair}
+use Rattle.wh_gen.specs.Files.{case_dir, case_spec, change_names}
 use Rattle.wh_io.specs.Files.{Held}
 use Rattle.wh_io.specs.Sink.{gained, GainsPrefix}
 use Rattle.wh_io.proofs.Gained.{gained_nothing, prefix_whole, prefix_within, prefix_then}
 use Rattle.wh_store.specs.Image.{Active, Holding, holding}
-use Rattle.whc.specs.declared.status.Status.{Status}
-use Rattle.whc.specs.declared.status.Status.TheVariants as status
-use Rattle.whc.specs.declared.stop.Stop.{Stop}
-use Rattle.whc.specs.declared.stop.Stop.TheVariants.{ReadFault, WriteFault, DiskFault, NotLoaded, AlreadyLoaded, Damaged, NoMemory, Usage}
-use Rattle.whc.specs.Ask.{answered, one_text, query_in, relation_in}
-use Rattle.whc.specs.Commands.{Command, show, plan, load, refresh, query, dump, is_apart, are_apart, command_of, expected, IsEndStatus}
-use Rattle.whc.specs.Disks.{BothRest, BothLeave}
-use Rattle.whc.specs.Ends.{Ends, EndsBy, EndsWhole, Way, whole, between, in_text, in_commit, way_of}
+use Rattle.wh_command.specs.declared.status.Status.{Status}
+use Rattle.wh_command.specs.declared.status.Status.TheVariants as status
+use Rattle.wh_command.specs.declared.stop.Stop.{Stop}
+use Rattle.wh_command.specs.declared.stop.Stop.TheVariants.{ReadFault, WriteFault, DiskFault, NotLoaded, AlreadyLoaded, Damaged, NoMemory, Usage}
+use Rattle.wh_command.specs.Ask.{answered, one_text, query_in, relation_in}
+use Rattle.wh_command.specs.Commands.{Command, show, plan, load, refresh, query, dump, audit, report, make, is_apart, are_apart, command_of, expected, IsEndStatus}
+use Rattle.wh_command.specs.Disks.{BothRest, BothLeave}
+use Rattle.wh_command.specs.Ends.{Ends, EndsBy, EndsWhole, Way, whole, between, in_text, in_commit, way_of}
 use Rattle.whc.specs.Laws.{Begins, Reaches, NoFault, ComesTo, IsRefused, IsFinished, RefusesBy, IsApart, IsAcknowledged, KeepsAcknowledged, is_refusal, is_store_status}
-use Rattle.whc.specs.declared.show.Shown.{Shown}
-use Rattle.whc.specs.Load.{loading, loads}
-use Rattle.whc.specs.Outcome.{Piece, Outcome, texts, text_at, state_after, last_state, stays}
-use Rattle.whc.specs.Run.{View, Scene, Finishes, EndsFrom, EndsAs, Reports, Answers}
-use Rattle.whc.specs.Plan.{plan_texts}
-use Rattle.whc.specs.Refresh.{opened_active, pieces_over, finish_over, IsRefreshStatus}
-use Rattle.whc.specs.Show.{show_texts}
-use Rattle.whc.specs.Steps.{is_read_fault, is_write_fault, is_disk_fault, is_store_stop}
-use Rattle.whc.specs.Stop.{status_of, unwritten, line_of, WritesLine, IsTold}
-use Rattle.whc.proofs.Commands.{ends_map}
+use Rattle.wh_command.specs.declared.show.Shown.{Shown}
+use Rattle.wh_command.specs.Load.{loading, loads}
+use Rattle.wh_command.specs.Outcome.{Piece, Outcome, texts, text_at, state_after, last_state, stays}
+use Rattle.wh_command.specs.Run.{View, Scene, Finishes, EndsFrom, EndsAs, Reports, Answers}
+use Rattle.wh_command.specs.Plan.{plan_texts}
+use Rattle.wh_command.specs.Refresh.{opened_active, pieces_over, finish_over, IsRefreshStatus}
+use Rattle.wh_command.specs.Make.{made_files}
+use Rattle.wh_command.specs.Report.{audited, reported}
+use Rattle.wh_command.specs.Show.{show_texts}
+use Rattle.wh_command.specs.Steps.{is_read_fault, is_write_fault, is_disk_fault, is_store_stop}
+use Rattle.wh_command.specs.Stop.{status_of, unwritten, line_of, WritesLine, IsTold}
+use Rattle.wh_command.proofs.Commands.{ends_map}
+use Rattle.wh_command.proofs.MakeRun.{case_no_pieces}
 
 abbrev text_of : Piece → List ℕ
 text_of piece = piece.text
@@ -110,6 +114,9 @@ no_pieces (load spec_name dir) held start stop is = nothing_loaded start (loadin
 no_pieces (refresh names) held start stop is = nothing_taken held names (opened_active start) stop is
 no_pieces (query text) held start stop is = no_rows start (one_text (answered start (query_in text))) stop is
 no_pieces (dump word) held start stop is = no_rows start (one_text (answered start (relation_in word))) stop is
+no_pieces (audit word file) held start stop is = no_rows start (one_text (audited held word file start)) stop is
+no_pieces report held start stop is = no_rows start (one_text (reported start)) stop is
+no_pieces (make number size) held start stop is = case_no_pieces (made_files number size) case_spec case_dir change_names start stop is
 
 -- a command that came to its end refuses nothing, but that change files may be refused
 ends_refusing : (command : Command) (answer : Status) (Stopped Finished : Type 0) → IsEndStatus command answer → is_refusal answer ≡ true → Finished → RefusesBy command Stopped Finished
@@ -308,6 +315,9 @@ ends_outside (load spec_name dir) answer is = ap is_store_status is
 ends_outside (refresh names) answer is = refresh_outside answer is
 ends_outside (query text) answer is = ap is_store_status is
 ends_outside (dump word) answer is = ap is_store_status is
+ends_outside (audit word file) answer is = ap is_store_status is
+ends_outside report answer is = ap is_store_status is
+ends_outside (make number size) answer is = ap is_store_status is
 
 module _ {D : Type 0} (before after : Scene D) (result : Status) where
   status_apart : (finish : Result Status Stop) → is_store_stop finish ≡ false → IfOk finish (λ answer. is_store_status answer ≡ false) → Reports finish before after result → is_store_status result ≡ false

@@ -6,14 +6,14 @@ use Rattle.wh_schema.specs.declared.spec.Spec.{Spec}
 use Rattle.wh_schema.specs.Changes.{Line, apply}
 use Rattle.wh_schema.specs.Warehouse.{State}
 use Rattle.wh_store.specs.Image.{Holding}
-use Rattle.whc.specs.declared.status.Status.TheVariants as status
+use Rattle.wh_command.specs.declared.status.Status.TheVariants as status
 use Rattle.whc.specs.AskLaws.{StandsFor}
-use Rattle.whc.specs.Disks.{BothRest}
+use Rattle.wh_command.specs.Disks.{BothRest}
 use Rattle.whc.specs.Headline.{Follow, Kept, RefreshRun, all_changes, last_view}
 use Rattle.whc.specs.Laws.{load_words}
-use Rattle.whc.specs.Load.{loaded_state}
+use Rattle.wh_command.specs.Load.{loaded_state}
 use Rattle.whc.specs.RefreshLaws.{Point, changes_in, point_after}
-use Rattle.whc.specs.Run.{Answers, Scene, View}
+use Rattle.wh_command.specs.Run.{Answers, Scene, View}
 use Rattle.whc.proofs.Loaded.{loaded_by, stands_by}
 use Rattle.whc.proofs.Refreshed.{refreshed, seq_is, sources_are}
 

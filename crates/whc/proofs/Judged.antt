@@ -29,7 +29,7 @@ use Rattle.wh_schema.specs.Reconstruction.{reconstructed}
 use Rattle.wh_schema.specs.Warehouse.{Row, SameState, State, stored}
 use Rattle.wh_store.specs.Commit.{change_body, is_past_limit}
 use Rattle.wh_store.specs.Image.{Active, Image, changed_tables, end_behind, first_over}
-use Rattle.whc.specs.Refresh.{Rejection, accepted, accepted_lines, deleted_count, inserted_count, lines_in, lines_or, over_limit, refreshed_words, taken, taken_by, unless_refused}
+use Rattle.wh_command.specs.Refresh.{Rejection, accepted, accepted_lines, deleted_count, inserted_count, lines_in, lines_or, over_limit, refreshed_words, taken, taken_by, unless_refused}
 use Rattle.whc.specs.RefreshLaws.{IsAt, Point, body_after, changed_words, if_legal, judged, judged_lines, point_by, status_by, stored_deltas, within_limits, within_rows, words_by}
 use Rattle.wh_check.proofs.BrokenLemmas.{broken_goes_by_sets}
 use Rattle.whc.proofs.BySets.{differences_same, given_state, lead_to, lines_same, lines_state}

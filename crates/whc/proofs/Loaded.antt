@@ -17,23 +17,23 @@ use Rattle.wh_spec_text.specs.declared.fault.SpecTextFault.{SpecTextFault}
 use Rattle.wh_spec_text.specs.SpecTexts.{spec_of_text}
 use Rattle.wh_store.specs.Image.{Holding, holding, first_over}
 use Rattle.wh_store.specs.Store.{is_too_large, loaded, loaded_file}
-use Rattle.whc.specs.declared.show.Shown.{Shown}
-use Rattle.whc.specs.declared.status.Status.{Status}
-use Rattle.whc.specs.declared.status.Status.TheVariants as status
-use Rattle.whc.specs.declared.stop.Stop.{Stop}
-use Rattle.whc.specs.declared.stop.Stop.TheVariants.{Limit}
-use Rattle.whc.specs.Commands.{load, expected}
-use Rattle.whc.specs.Disks.{BothRest, BothLeave}
-use Rattle.whc.specs.Ends.{Ends, EndsWhole}
-use Rattle.whc.specs.Inputs.{and_then, file_of, parsed, planned, spec_in, spec_file, dump_name, dumped, dump_in, dump_file, dump_files, IsFromText, IsDumpOf, AreDumpsOf}
+use Rattle.wh_command.specs.declared.show.Shown.{Shown}
+use Rattle.wh_command.specs.declared.status.Status.{Status}
+use Rattle.wh_command.specs.declared.status.Status.TheVariants as status
+use Rattle.wh_command.specs.declared.stop.Stop.{Stop}
+use Rattle.wh_command.specs.declared.stop.Stop.TheVariants.{Limit}
+use Rattle.wh_command.specs.Commands.{load, expected}
+use Rattle.wh_command.specs.Disks.{BothRest, BothLeave}
+use Rattle.wh_command.specs.Ends.{Ends, EndsWhole}
+use Rattle.wh_command.specs.Inputs.{and_then, file_of, parsed, planned, spec_in, spec_file, dump_name, dumped, dump_in, dump_file, dump_files, IsFromText, IsDumpOf, AreDumpsOf}
 use Rattle.whc.specs.Laws.{Sources, WritesSnapshot, LoadedStands, load_words}
-use Rattle.whc.specs.Load.{if_unloaded, within_file, gathered_by, gathered, loading, loads, load_outcome, loaded_text, loaded_state, HoldsSnapshot}
-use Rattle.whc.specs.Outcome.{state_after, IsReached}
-use Rattle.whc.specs.Run.{Scene, Reports, Answers, LeavesBytes}
-use Rattle.whc.specs.Show.{shown, tables_within, tables_unless, tables_of}
-use Rattle.whc.specs.Words.{warehouse_file_words}
+use Rattle.wh_command.specs.Load.{if_unloaded, within_file, gathered_by, gathered, loading, loads, load_outcome, loaded_text, loaded_state, HoldsSnapshot}
+use Rattle.wh_command.specs.Outcome.{state_after, IsReached}
+use Rattle.wh_command.specs.Run.{Scene, Reports, Answers, LeavesBytes}
+use Rattle.wh_command.specs.Show.{shown, tables_within, tables_unless, tables_of}
+use Rattle.wh_command.specs.Words.{warehouse_file_words}
 use Rattle.wh_laws.proofs.Changes.{broken_none}
-use Rattle.whc.proofs.Fitting.{load_is}
+use Rattle.wh_command.proofs.Fitting.{load_is}
 use Rattle.whc.proofs.Follows.{finishes_of, over_disks}
 use Rattle.whc.proofs.Shown.{never_ok}
 

@@ -12,20 +12,20 @@ use Rattle.wh_schema.specs.Constraints.{Legal, broken}
 use Rattle.wh_schema.specs.Warehouse.{State, stored}
 use Rattle.wh_store.specs.Image.{Active, Holding, first_over, holding}
 use Rattle.wh_store.specs.Warehouse.{Stands}
-use Rattle.whc.specs.declared.status.Status.{Status}
-use Rattle.whc.specs.declared.status.Status.TheVariants as status
-use Rattle.whc.specs.declared.stop.Stop.{Stop}
-use Rattle.whc.specs.declared.stop.Stop.TheVariants.{DiskFault, NoMemory, ReadFault, WriteFault}
+use Rattle.wh_command.specs.declared.status.Status.{Status}
+use Rattle.wh_command.specs.declared.status.Status.TheVariants as status
+use Rattle.wh_command.specs.declared.stop.Stop.{Stop}
+use Rattle.wh_command.specs.declared.stop.Stop.TheVariants.{DiskFault, NoMemory, ReadFault, WriteFault}
 use Rattle.whc.specs.AskLaws.{StandsFor}
-use Rattle.whc.specs.Commands.{command_of, expected, refresh}
-use Rattle.whc.specs.Disks.{BothLeave, BothRest}
-use Rattle.whc.specs.Ends.{Ends}
-use Rattle.whc.specs.Outcome.{IsReached, last_state, state_after, texts}
-use Rattle.whc.specs.Refresh.{IsRefreshStatus, Rejection, accepted, file_text, first_status, lines_in, refresh_outcome, refresh_pieces, refresh_status, taken}
+use Rattle.wh_command.specs.Commands.{command_of, expected, refresh}
+use Rattle.wh_command.specs.Disks.{BothLeave, BothRest}
+use Rattle.wh_command.specs.Ends.{Ends}
+use Rattle.wh_command.specs.Outcome.{IsReached, last_state, state_after, texts}
+use Rattle.wh_command.specs.Refresh.{IsRefreshStatus, Rejection, accepted, file_text, first_status, lines_in, refresh_outcome, refresh_pieces, refresh_status, taken}
 use Rattle.whc.specs.RefreshLaws.{IsAt, IsRefusedFor, Point, ReachesFirst, Refreshed, changes_in, if_legal, judged, judged_lines, point_after, point_by, report, report_status, status_by, with_accepted, within_limits, within_rows, words_by}
-use Rattle.whc.specs.Run.{Answers, Reports, Scene}
-use Rattle.whc.specs.Steps.{is_outside}
-use Rattle.whc.specs.Stop.{status_of, unwritten}
+use Rattle.wh_command.specs.Run.{Answers, Reports, Scene}
+use Rattle.wh_command.specs.Steps.{is_outside}
+use Rattle.wh_command.specs.Stop.{status_of, unwritten}
 use Rattle.whc.proofs.Follows.{finishes_of, over_disks}
 use Rattle.whc.proofs.Judged.{accepted_is, point_taken, status_taken, words_taken}
 

@@ -15,22 +15,22 @@ use Rattle.wh_schema.specs.Constraints.{broken}
 use Rattle.wh_schema.specs.Warehouse.{Row, State, stored}
 use Rattle.wh_spec_text.specs.declared.fault.SpecTextFault.{SpecTextFault}
 use Rattle.wh_spec_text.specs.SpecTexts.{spec_of_text}
-use Rattle.whc.specs.declared.show.Shown.{Shown}
-use Rattle.whc.specs.declared.status.Status.{Status}
-use Rattle.whc.specs.declared.status.Status.TheVariants as status
-use Rattle.whc.specs.declared.stop.Stop.{Stop}
-use Rattle.whc.specs.declared.stop.Stop.TheVariants.{Refused, Usage, Limit}
-use Rattle.whc.specs.Commands.{show, expected}
-use Rattle.whc.specs.Ends.{Ends}
-use Rattle.whc.specs.Inputs.{and_then, file_of, parsed, planned, spec_in, spec_file, dump_name, dumped, dump_in, dump_file, dump_files}
+use Rattle.wh_command.specs.declared.show.Shown.{Shown}
+use Rattle.wh_command.specs.declared.status.Status.{Status}
+use Rattle.wh_command.specs.declared.status.Status.TheVariants as status
+use Rattle.wh_command.specs.declared.stop.Stop.{Stop}
+use Rattle.wh_command.specs.declared.stop.Stop.TheVariants.{Refused, Usage, Limit}
+use Rattle.wh_command.specs.Commands.{show, expected}
+use Rattle.wh_command.specs.Ends.{Ends}
+use Rattle.wh_command.specs.Inputs.{and_then, file_of, parsed, planned, spec_in, spec_file, dump_name, dumped, dump_in, dump_file, dump_files}
 use Rattle.whc.specs.Laws.{Sources, ShowsStored, TellsBroken, show_words}
-use Rattle.whc.specs.Outcome.{texts, stays}
+use Rattle.wh_command.specs.Outcome.{texts, stays}
 use Rattle.wh_store.specs.Image.{Holding, holding, first_over}
-use Rattle.whc.specs.Run.{Scene, Reports, Answers}
-use Rattle.whc.specs.Show.{table_texts, tables_within, tables_unless, tables_of, shown_of}
-use Rattle.whc.specs.Stop.{status_of, unwritten, line_of, WritesLine}
+use Rattle.wh_command.specs.Run.{Scene, Reports, Answers}
+use Rattle.wh_command.specs.Show.{table_texts, tables_within, tables_unless, tables_of, shown_of}
+use Rattle.wh_command.specs.Stop.{status_of, unwritten, line_of, WritesLine}
 use Rattle.whc.proofs.Follows.{finishes_of, apart_from_disks}
-use Rattle.whc.proofs.Texts.{joined, all_texts}
+use Rattle.wh_command.proofs.Texts.{joined, all_texts}
 
 -- ---- which step refuses
 

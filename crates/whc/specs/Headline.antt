@@ -5,15 +5,15 @@ use Rattle.wh_schema.specs.declared.spec.Spec.{Spec}
 use Rattle.wh_schema.specs.Changes.{Line, apply}
 use Rattle.wh_schema.specs.Warehouse.{State}
 use Rattle.wh_store.specs.Image.{Holding}
-use Rattle.whc.specs.declared.status.Status.{Status}
-use Rattle.whc.specs.declared.status.Status.TheVariants as status
+use Rattle.wh_command.specs.declared.status.Status.{Status}
+use Rattle.wh_command.specs.declared.status.Status.TheVariants as status
 use Rattle.whc.specs.AskLaws.{PrintsQuery, StandsFor, query_words}
-use Rattle.whc.specs.Commands.{command_of, refresh}
-use Rattle.whc.specs.Disks.{BothRest}
+use Rattle.wh_command.specs.Commands.{command_of, refresh}
+use Rattle.wh_command.specs.Disks.{BothRest}
 use Rattle.whc.specs.Laws.{KeepsAcknowledged, Sources, load_words}
-use Rattle.whc.specs.Refresh.{IsRefreshStatus}
+use Rattle.wh_command.specs.Refresh.{IsRefreshStatus}
 use Rattle.whc.specs.RefreshLaws.{Point, RefreshReaches, RefusedExactly, changes_in, point_after}
-use Rattle.whc.specs.Run.{Answers, Scene, View}
+use Rattle.wh_command.specs.Run.{Answers, Scene, View}
 
 -- A run of change files: their names, what the files held, what stood before and after, and the status.
 pub record RefreshRun (D : Type 0) : Type 0 where

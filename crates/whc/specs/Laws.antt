@@ -12,18 +12,18 @@ use Rattle.wh_schema.specs.Warehouse.{State, stored}
 use Rattle.wh_store.specs.Image.{Holding, holding, first_over}
 use Rattle.wh_store.specs.Store.{loaded, loaded_file}
 use Rattle.wh_store.specs.Warehouse.{Stands}
-use Rattle.whc.specs.declared.status.Status.{Status}
-use Rattle.whc.specs.declared.status.Status.TheVariants as status
-use Rattle.whc.specs.declared.stop.Stop.{Stop}
-use Rattle.whc.specs.Commands.{Command, load, refresh, command_of, are_apart, is_apart, expected}
-use Rattle.whc.specs.Disks.{BothRest}
-use Rattle.whc.specs.Inputs.{spec_file, dump_files}
-use Rattle.whc.specs.Load.{loaded_text}
-use Rattle.whc.specs.Outcome.{Outcome, texts, state_after, last_state, IsReached}
-use Rattle.whc.specs.Run.{View, Scene, Answers}
-use Rattle.whc.specs.Show.{shown, table_texts}
-use Rattle.whc.specs.Stop.{status_of, usage, line_of}
-use Rattle.whc.specs.Words.{broken_words}
+use Rattle.wh_command.specs.declared.status.Status.{Status}
+use Rattle.wh_command.specs.declared.status.Status.TheVariants as status
+use Rattle.wh_command.specs.declared.stop.Stop.{Stop}
+use Rattle.wh_command.specs.Commands.{Command, load, refresh, command_of, are_apart, is_apart, expected}
+use Rattle.wh_command.specs.Disks.{BothRest}
+use Rattle.wh_command.specs.Inputs.{spec_file, dump_files}
+use Rattle.wh_command.specs.Load.{loaded_text}
+use Rattle.wh_command.specs.Outcome.{Outcome, texts, state_after, last_state, IsReached}
+use Rattle.wh_command.specs.Run.{View, Scene, Answers}
+use Rattle.wh_command.specs.Show.{shown, table_texts}
+use Rattle.wh_command.specs.Stop.{status_of, usage, line_of}
+use Rattle.wh_command.specs.Words.{broken_words}
 
 -- Each law is one over all forms of disks: `content`, `faults` and `images` are what a form tells.
 

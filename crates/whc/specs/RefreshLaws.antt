@@ -13,15 +13,15 @@ use Rattle.wh_schema.specs.Warehouse.{State, stored}
 use Rattle.wh_store.specs.Commit.{change_body, is_past_limit}
 use Rattle.wh_store.specs.Image.{Active, Holding, end_behind, first_over, holding}
 use Rattle.wh_store.specs.Warehouse.{Stands}
-use Rattle.whc.specs.declared.status.Status.{Status}
-use Rattle.whc.specs.declared.status.Status.TheVariants as status
+use Rattle.wh_command.specs.declared.status.Status.{Status}
+use Rattle.wh_command.specs.declared.status.Status.TheVariants as status
 use Rattle.whc.specs.AskLaws.{QueryPrintsAnswer, StandsFor}
-use Rattle.whc.specs.Commands.{command_of, expected, refresh}
+use Rattle.wh_command.specs.Commands.{command_of, expected, refresh}
 use Rattle.whc.specs.Laws.{KeepsAcknowledged, LoadStands}
-use Rattle.whc.specs.Outcome.{IsReached}
-use Rattle.whc.specs.Refresh.{IsRefreshStatus, Rejection, Taken, accepted, deleted_count, file_text, first_status, inserted_count, lines_in, over_limit, taken}
-use Rattle.whc.specs.Run.{Answers, Scene}
-use Rattle.whc.specs.Words.{broken_words, rows_words}
+use Rattle.wh_command.specs.Outcome.{IsReached}
+use Rattle.wh_command.specs.Refresh.{IsRefreshStatus, Rejection, Taken, accepted, deleted_count, file_text, first_status, inserted_count, lines_in, over_limit, taken}
+use Rattle.wh_command.specs.Run.{Answers, Scene}
+use Rattle.wh_command.specs.Words.{broken_words, rows_words}
 
 -- the sources, the number of changes so far, and the place behind the frames of the active file
 pub record Point : Type 0 where

@@ -1,5 +1,5 @@
 // What follows of every run. The functions have no code.
-ghost use Rattle.whc.specs.AskLaws.{QueryPrintsAnswer, DumpPrintsRelation};
+ghost use Rattle.whc.specs.AskLaws.{AuditPrintsChange, DumpPrintsRelation, QueryPrintsAnswer, ReportPrintsState};
 ghost use Rattle.whc.specs.Headline.{Headline};
 ghost use Rattle.whc.specs.Laws.{ReadFaultHasCause, DiskFaultHasCause, KeepsAcknowledged, WriteFaultHasCause, StaysApart, UsageHasCause, OtherWordsAreTold, RefusalHasCause, IsExact, PrintsFirstPart, ShowPrintsStored, ShowRefusesBroken, LoadWritesOneSnapshot, LoadReaches, LoadStands};
 ghost use Rattle.whc.specs.RefreshLaws.{RefreshesAsJudged, RefreshStands, RefreshReaches, RefusedExactly};
@@ -89,6 +89,16 @@ pub fn query_prints_answer<D: Disk>()
 /// After Ok `dump` has printed the relation's rows in the state that the store stands for.
 pub fn dump_prints_relation<D: Disk>()
     ensures { DumpPrintsRelation D.content D.faults D.images }
+{}
+
+/// After Ok `report` has printed the report of the state that the store stands for.
+pub fn report_prints_state<D: Disk>()
+    ensures { ReportPrintsState D.content D.faults D.images }
+{}
+
+/// After Ok `audit` has printed what turns the relation's rows in the state that the store stands for into those of the dump.
+pub fn audit_prints_change<D: Disk>()
+    ensures { AuditPrintsChange D.content D.faults D.images }
 {}
 
 /// A change file is accepted or refused as the sources that the store stands for judge it.

@@ -1,37 +1,28 @@
 //! The program: it takes its words, and hands them with the outside to the top call.
 #![tactic(auto)]
 
-mod ask;
-mod command;
-mod inputs;
+#[cfg(test)]
+mod audit_tests;
 mod laws;
-mod load;
-mod plan;
+#[cfg(test)]
+mod make_tests;
 #[cfg(test)]
 mod query_tests;
-mod refresh;
 #[cfg(test)]
 mod refresh_fault_tests;
-mod refresh_file;
-mod refresh_line;
 #[cfg(test)]
 mod refresh_tests;
 mod run;
-mod show;
-mod status;
-mod stop;
-mod store;
 #[cfg(test)]
 mod store_tests;
 #[cfg(test)]
 mod tests;
-mod words;
 
 use run::run;
-use status::Status;
 use std::alloc::{AllocError, Global};
 use std::env;
 use std::process::ExitCode;
+use wh_command::Status;
 use wh_disk::{RealDisk, RealFiles};
 use wh_io::WriterSink;
 use wh_steps::{NoLedger, Steps};

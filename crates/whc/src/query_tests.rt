@@ -1,11 +1,11 @@
 // Queries over a store, over devices in memory.
-use crate::status::Status;
 use crate::store_tests::{End, LOAD_B, LOADED_B, NONE, Row, Store, Story, ends, tell_all, told};
 use crate::tests::{FILES_A, show};
 use std::alloc::Global;
 use std::process::Abort;
 use std::test::Fail;
 use wh_base::NoMemory;
+use wh_command::Status;
 use wh_steps::{NoLedger, Steps};
 
 const SOLD_ROWS: &str = "item,clerk,age\nPC,John,25\nTV,Mary,23\nVCR,Mary,23\n";

@@ -3,13 +3,13 @@ use crate::refresh_tests::{
     AT_FIRST, CALLS, EMPLOYEES, HELD_B, LOADED, SALES, SOLD_BY_ZOE, THREE, TOOK_TWO, WITH_ZOE,
     is_reached,
 };
-use crate::status::Status;
 use crate::store_tests::{End, Fails, NONE, Row, Store, Story, empty_store, ends, tell_all};
 use crate::tests::show;
 use std::alloc::Global;
 use std::process::Abort;
 use std::test::Fail;
 use wh_base::NoMemory;
+use wh_command::Status;
 use wh_steps::{NoLedger, Steps};
 
 const READ_FIRST: Row<'static> = Row(

@@ -1,13 +1,13 @@
 // Change files over a store, over devices in memory.
-use crate::status::Status;
 use crate::store_tests::{
     End, Fails, LOAD_B, LOADED_B, NONE, Row, Store, Story, crashed, ends, tell_all, told,
 };
-use crate::tests::{EMP, SALE, SPEC_B, show};
+use crate::tests::{EMP, SALE, SPEC_B, USAGE, show};
 use std::alloc::Global;
 use std::process::Abort;
 use std::test::Fail;
 use wh_base::NoMemory;
+use wh_command::Status;
 use wh_steps::{NoLedger, Steps};
 
 // The dumps of a store of sales, and change files.
@@ -529,9 +529,6 @@ fn frames_are_added(rt: HostRuntime) -> Result<(), Fail> {
     let mut counts = Steps::new(&rt, NoLedger);
     Ok(tell_all(&rt, rt.alloc(), &mut counts, FRAMES)?)
 }
-
-const USAGE: &str =
-    "usage: whc STORE COMMAND\n  show SPEC DIR\n  plan SPEC\n  load SPEC DIR\n  refresh FILE..\n  query TEXT\n  dump RELATION\n";
 
 pub(crate) const WITH_ZOE: End<'static> = End(
     Status::Ok,

@@ -1,12 +1,10 @@
 // The top call.
 ghost use Rattle.std.specs.Prelude.{◌≡◌, ◌≤◌};
-ghost use Rattle.whc.specs.Commands.{command_of, words_of};
-ghost use Rattle.whc.specs.Run.{Answers, Crashes, ReadsOnce};
+ghost use Rattle.wh_command.specs.Commands.{command_of, words_of};
+ghost use Rattle.wh_command.specs.Run.{Answers, Crashes, ReadsOnce};
 
-use crate::command::perform;
-use crate::status::Status;
-use crate::stop::tell;
 use std::alloc::Global;
+use wh_command::{Status, perform, tell};
 use wh_io::{Disk, Files, Sink};
 use wh_steps::{Ledger, Steps};
 

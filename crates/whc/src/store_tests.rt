@@ -1,11 +1,11 @@
 // The commands on a store, over devices in memory: stories of runs, and crashes.
 use crate::run::run;
-use crate::status::Status;
 use crate::tests::{Case, FILES_A, files, numbers, show};
 use std::alloc::Global;
 use std::process::Abort;
 use std::test::Fail;
 use wh_base::{ByteText, NoMemory};
+use wh_command::Status;
 use wh_io::{MemDisk, MemFiles, MemSink};
 use wh_steps::{NoLedger, Steps};
 
@@ -103,6 +103,35 @@ pub(crate) fn ends(
     let mut err = sink(alloc, case.err_fails)?;
     let status = run_on(alloc, &words, &mut files, &mut out, &mut err, store, counts);
     Ok(is_end(end, status, &out, &err))
+}
+
+// How a run over a store ends, and what it prints.
+pub(crate) fn answer(
+    rt: &impl Abort,
+    alloc: Global,
+    counts: &mut Steps<NoLedger>,
+    store: &mut Store,
+    case: &Case<'_>,
+) -> Result<(Status, ByteText), NoMemory> {
+    let words = words_of(alloc, case.words)?;
+    let mut files = files(rt, alloc, case)?;
+    let mut out = sink(alloc, &[])?;
+    let mut err = sink(alloc, &[])?;
+    let status = run_on(alloc, &words, &mut files, &mut out, &mut err, store, counts);
+    Ok((status, ByteText::from_slice(alloc, out.taken())?))
+}
+
+// What a run over a store prints that ends with Ok.
+pub(crate) fn printed(
+    rt: &impl Abort,
+    alloc: Global,
+    counts: &mut Steps<NoLedger>,
+    store: &mut Store,
+    case: &Case<'_>,
+) -> Result<ByteText, NoMemory> {
+    let (status, text) = answer(rt, alloc, counts, store, case)?;
+    assert!(rt; status == Status::Ok);
+    Ok(text)
 }
 
 // An empty store, with the calls of its two disks that fail.

@@ -1,10 +1,10 @@
 // The top call over devices in memory: worked rows, byte by byte.
 use crate::run::run;
-use crate::status::Status;
 use std::alloc::Global;
 use std::process::Abort;
 use std::test::Fail;
 use wh_base::{ByteText, Name, Names, NoMemory, Numbers, Texts};
+use wh_command::Status;
 use wh_io::{MemDisk, MemFiles, MemSink};
 use wh_steps::{NoLedger, Steps};
 
@@ -166,11 +166,13 @@ piece 1: project (clerk, age) Sold
 piece 2: project (clerk) Sale
 cover: 1
 inverse: C_Emp union project (clerk, age) Sold
+always empty: no
 key probes: not stated
 relation Sale
 piece 1: project (item, clerk) Sold
 cover: 1
 inverse: C_Sale union project (item, clerk) Sold
+always empty: yes
 key probes: 2
 ";
 
@@ -180,6 +182,7 @@ piece 1: project (k, a) Va
 piece 2: project (k, b) Vb
 cover: 1, 2
 inverse: C_R union project (k, a) Va join project (k, b) Vb
+always empty: no
 key probes: 3
 ";
 
@@ -189,18 +192,22 @@ piece 1: project (sku, price) Prices
 piece 2: project (sku, cat) Line
 cover: 1, 2
 inverse: C_Item union project (sku, cat, price) (project (sku, price) Prices join project (sku, cat) Line)
+always empty: no
 key probes: not stated
 relation Line
 inverse: C_Line
+always empty: no
 key probes: 1
 ";
 
 const PLAN_PICKS: &str = "order: Pick, Item
 relation Item
 inverse: C_Item
+always empty: no
 key probes: 1
 relation Pick
 inverse: C_Pick
+always empty: no
 key probes: 1
 ";
 
@@ -216,9 +223,11 @@ piece 2: rename (ref to sku) project (ref) Line
 cover: 1
 cover: 2
 inverse: C_Item union rename (ref to sku) project (ref) Line union rename (ref to sku) project (ref) Line
+always empty: no
 key probes: not stated
 relation Line
 inverse: C_Line
+always empty: no
 key probes: 1
 ";
 
@@ -253,6 +262,7 @@ cover: 10
 cover: 11
 cover: 12
 inverse: C_R union project (k, a) V1 union project (k, a) V2 union project (k, a) V3 union project (k, a) V4 union project (k, a) V5 union project (k, a) V6 union project (k, a) V7 union project (k, a) V8 union project (k, a) V9 union project (k, a) V10 union project (k, a) V11 union project (k, a) V12
+always empty: yes
 key probes: 13
 ";
 
@@ -407,8 +417,8 @@ fn each_specification_is_refused_at_its_place(rt: HostRuntime) -> Result<(), Fai
     Ok(())
 }
 
-const USAGE: &str =
-    "usage: whc STORE COMMAND\n  show SPEC DIR\n  plan SPEC\n  load SPEC DIR\n  refresh FILE..\n  query TEXT\n  dump RELATION\n";
+pub(crate) const USAGE: &str =
+    "usage: whc STORE COMMAND\n  show SPEC DIR\n  plan SPEC\n  load SPEC DIR\n  refresh FILE..\n  query TEXT\n  dump RELATION\n  audit RELATION FILE\n  report\n  make NUMBER SIZE\n";
 
 const HELD_T: &[(&str, &[u8])] = &[
     ("s", T),

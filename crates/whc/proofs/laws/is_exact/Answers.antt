@@ -1,4 +1,4 @@
-use Rattle.whc.proofs.Commands.{command_start}
+use Rattle.wh_command.proofs.Commands.{command_start}
 use Rattle.whc.proofs.Follows.{exact}
 use Rattle.whc.proofs.laws.is_exact.Goals as goal
 

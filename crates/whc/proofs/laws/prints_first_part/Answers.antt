@@ -1,5 +1,5 @@
-use Rattle.whc.specs.Commands.{expected}
-use Rattle.whc.specs.Ends.{way_of}
+use Rattle.wh_command.specs.Commands.{expected}
+use Rattle.wh_command.specs.Ends.{way_of}
 use Rattle.whc.proofs.Follows.{finishes_of, prints, by_way}
 use Rattle.whc.proofs.laws.prints_first_part.Goals as goal
 

@@ -1,4 +1,4 @@
-use Rattle.whc.proofs.Commands.{command_start}
+use Rattle.wh_command.proofs.Commands.{command_start}
 use Rattle.whc.proofs.Follows.{refused_at}
 use Rattle.whc.proofs.laws.refusal_has_cause.Goals as goal
 

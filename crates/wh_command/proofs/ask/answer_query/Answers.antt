@@ -1,0 +1,7 @@
+use Rattle.wh_command.specs.Ask.{answer_in, query_in}
+use Rattle.wh_command.proofs.Asks.{opened_asks}
+use Rattle.wh_command.proofs.ask.answer_query.Goals as goal
+
+pub returns-in-Ok-clause-answer : goal.returns-in-Ok-clause-answer
+returns-in-Ok-clause-answer g c =
+    opened_asks (g.D.Disk.content c.args.first.now) (g.D.Disk.content c.args.second.now) (λ image. answer_in image (query_in c.args.text.now image.spec)) c.in-Ok.warehouse _ c.in-Ok.ensures.answer c.query_of.ensures.answer

@@ -1,0 +1,13 @@
+use Rattle.wh_command.specs.Ask.{answered, query_in}
+use Rattle.wh_command.proofs.Asks.{asks_stop, asks_tell}
+use Rattle.wh_command.proofs.ask.query.Goals as goal
+
+pub returns-in-Ok-clause-ends : goal.returns-in-Ok-clause-ends
+returns-in-Ok-clause-ends g c =
+    asks_tell g.D.Disk.content g.D.Disk.images g.D.Disk.moment g.D.Disk.images_since _ _ _ _ (λ found. answered found (query_in c.args.text.now)) c.answer_query.ensures.first_same c.answer_query.ensures.second_same c.answer_query.ensures.first_moments c.answer_query.ensures.second_moments
+    (g.met.D.Disk.counts_now _) (g.met.D.Disk.counts_now _) _ _ c.in-Ok.answer _ c.in-Ok.ensures.answer c.print.ensures.tells
+
+pub returns-in-Err-clause-ends : goal.returns-in-Err-clause-ends
+returns-in-Err-clause-ends g c =
+    asks_stop g.D.Disk.content g.D.Disk.images g.D.Disk.moment g.D.Disk.images_since _ _ _ _ (λ found. answered found (query_in c.args.text.now)) c.answer_query.ensures.first_same c.answer_query.ensures.second_same c.answer_query.ensures.first_moments c.answer_query.ensures.second_moments
+    (g.met.D.Disk.counts_now _) (g.met.D.Disk.counts_now _) _ c.in-Err.stop c.in-Err.ensures.write c.in-Err.ensures.answer

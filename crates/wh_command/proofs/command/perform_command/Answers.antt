@@ -1,0 +1,88 @@
+use Rattle.std.proofs.Common.{ap, refl, Some}
+use Rattle.wh_command.specs.declared.naming.Command as naming
+use Rattle.wh_command.specs.Commands.{show, plan, load, refresh, query, dump, audit, report, make, said, words_of}
+use Rattle.wh_command.proofs.Commands.{apart_crashes, apart_finishes, asked_crashes, asked_finishes, each_held, load_crashes, load_finishes, make_crashes, make_finishes, plan_from, refresh_crashes, refresh_finishes, show_from}
+use Rattle.wh_command.proofs.ReadNames.{names_none}
+use Rattle.wh_command.proofs.command.perform_command.Goals as goal
+
+pub returns-in-Show-clause-finishes : goal.returns-in-Show-clause-finishes
+returns-in-Show-clause-finishes g c =
+    apart_finishes g.D.Disk.content g.D.Disk.images c.args.first.now c.args.second.now _ (show c.in-Show.spec.now c.in-Show.dir.now) _ _ _ _ _ (ap (λ (k : naming.Command). Some (said k)) c.in-Show.is) refl
+    c.show.ensures.usage c.show.ensures.done c.show.ensures.store (show_from c.in-Show.spec.now c.in-Show.dir.now _ _ _ _ c.show.ensures.ends c.show.ensures.names)
+
+pub returns-in-Show-clause-crash : goal.returns-in-Show-clause-crash
+returns-in-Show-clause-crash g c =
+    apart_crashes g.D.Disk.content g.D.Disk.images c.args.first.now c.args.second.now g.D.Disk.moment g.D.Disk.images_since (Some (said c.args.command)) _ (g.met.D.Disk.only_now _) (g.met.D.Disk.only_now _)
+
+pub returns-in-Plan-clause-finishes : goal.returns-in-Plan-clause-finishes
+returns-in-Plan-clause-finishes g c =
+    apart_finishes g.D.Disk.content g.D.Disk.images c.args.first.now c.args.second.now _ (plan c.in-Plan.spec.now) _ _ _ _ _ (ap (λ (k : naming.Command). Some (said k)) c.in-Plan.is) refl
+    c.plan.ensures.usage c.plan.ensures.done c.plan.ensures.store (plan_from c.in-Plan.spec.now _ _ _ _ c.plan.ensures.ends c.plan.ensures.names)
+
+pub returns-in-Plan-clause-crash : goal.returns-in-Plan-clause-crash
+returns-in-Plan-clause-crash g c =
+    apart_crashes g.D.Disk.content g.D.Disk.images c.args.first.now c.args.second.now g.D.Disk.moment g.D.Disk.images_since (Some (said c.args.command)) _ (g.met.D.Disk.only_now _) (g.met.D.Disk.only_now _)
+
+pub returns-in-Load-clause-finishes : goal.returns-in-Load-clause-finishes
+returns-in-Load-clause-finishes g c =
+    load_finishes g.D.Disk.content g.D.Disk.images g.D.Disk.moment g.D.Disk.images_since c.in-Load.spec.now c.in-Load.dir.now c.args.first.now c.load.new.first c.args.second.now c.load.new.second _ _ _ _ _ _ (ap (λ (k : naming.Command). Some (said k)) c.in-Load.is)
+    c.load.ensures.usage c.load.ensures.done c.load.ensures.second_same c.load.ensures.ends
+
+pub returns-in-Load-clause-crash : goal.returns-in-Load-clause-crash
+returns-in-Load-clause-crash g c =
+    load_crashes g.D.Disk.content g.D.Disk.images g.D.Disk.moment g.D.Disk.images_since c.in-Load.spec.now c.in-Load.dir.now c.args.first.now c.load.new.first c.args.second.now c.load.new.second _ _ _ _ _ (ap (λ (k : naming.Command). Some (said k)) c.in-Load.is) c.load.ensures.ends
+
+pub returns-in-Refresh-clause-finishes : goal.returns-in-Refresh-clause-finishes
+returns-in-Refresh-clause-finishes g c =
+    refresh_finishes g.D.Disk.content g.D.Disk.images g.D.Disk.moment g.D.Disk.images_since (words_of c.in-Refresh.names.now) c.args.first.now c.refresh.new.first c.args.second.now c.refresh.new.second _ _ _ _ _ _ (ap (λ (k : naming.Command). Some (said k)) c.in-Refresh.is)
+    c.refresh.ensures.usage c.refresh.ensures.done c.refresh.ensures.ends
+
+pub returns-in-Refresh-clause-crash : goal.returns-in-Refresh-clause-crash
+returns-in-Refresh-clause-crash g c =
+    refresh_crashes g.D.Disk.content g.D.Disk.images g.D.Disk.moment g.D.Disk.images_since (words_of c.in-Refresh.names.now) c.args.first.now c.refresh.new.first c.args.second.now c.refresh.new.second _ _ _ _ _ (ap (λ (k : naming.Command). Some (said k)) c.in-Refresh.is) c.refresh.ensures.ends
+
+pub returns-in-Query-clause-finishes : goal.returns-in-Query-clause-finishes
+returns-in-Query-clause-finishes g c =
+    asked_finishes g.D.Disk.content g.D.Disk.images g.D.Disk.moment g.D.Disk.images_since c.args.first.now c.query.new.first c.args.second.now c.query.new.second _ _ _ (query c.in-Query.text.now) _ (g.F.Files.held c.args.files.now) _ (ap (λ (k : naming.Command). Some (said k)) c.in-Query.is) refl
+    c.query.ensures.usage c.query.ensures.done (λ h start. (c.query.ensures.first_same, c.query.ensures.second_same)) (each_held (g.F.Files.held c.args.files.now) _ (λ h. c.query.ensures.ends)) (each_held (g.F.Files.held c.args.files.now) _ (λ h start rest. names_none (λ read. ⊥) c.query.result c.query.ensures.read))
+
+pub returns-in-Query-clause-crash : goal.returns-in-Query-clause-crash
+returns-in-Query-clause-crash g c =
+    asked_crashes g.D.Disk.content g.D.Disk.images g.D.Disk.moment g.D.Disk.images_since c.args.first.now c.query.new.first c.args.second.now c.query.new.second _ _ _ (query c.in-Query.text.now) _ (g.F.Files.held c.args.files.now) (ap (λ (k : naming.Command). Some (said k)) c.in-Query.is) (each_held (g.F.Files.held c.args.files.now) _ (λ h. c.query.ensures.ends))
+
+pub returns-in-Dump-clause-finishes : goal.returns-in-Dump-clause-finishes
+returns-in-Dump-clause-finishes g c =
+    asked_finishes g.D.Disk.content g.D.Disk.images g.D.Disk.moment g.D.Disk.images_since c.args.first.now c.dump.new.first c.args.second.now c.dump.new.second _ _ _ (dump c.in-Dump.relation.now) _ (g.F.Files.held c.args.files.now) _ (ap (λ (k : naming.Command). Some (said k)) c.in-Dump.is) refl
+    c.dump.ensures.usage c.dump.ensures.done (λ h start. (c.dump.ensures.first_same, c.dump.ensures.second_same)) (each_held (g.F.Files.held c.args.files.now) _ (λ h. c.dump.ensures.ends)) (each_held (g.F.Files.held c.args.files.now) _ (λ h start rest. names_none (λ read. ⊥) c.dump.result c.dump.ensures.read))
+
+pub returns-in-Dump-clause-crash : goal.returns-in-Dump-clause-crash
+returns-in-Dump-clause-crash g c =
+    asked_crashes g.D.Disk.content g.D.Disk.images g.D.Disk.moment g.D.Disk.images_since c.args.first.now c.dump.new.first c.args.second.now c.dump.new.second _ _ _ (dump c.in-Dump.relation.now) _ (g.F.Files.held c.args.files.now) (ap (λ (k : naming.Command). Some (said k)) c.in-Dump.is) (each_held (g.F.Files.held c.args.files.now) _ (λ h. c.dump.ensures.ends))
+
+pub returns-in-Audit-clause-finishes : goal.returns-in-Audit-clause-finishes
+returns-in-Audit-clause-finishes g c =
+    asked_finishes g.D.Disk.content g.D.Disk.images g.D.Disk.moment g.D.Disk.images_since c.args.first.now c.audit.new.first c.args.second.now c.audit.new.second _ _ _ (audit c.in-Audit.relation.now c.in-Audit.file.now) _ (g.F.Files.held c.args.files.now) _ (ap (λ (k : naming.Command). Some (said k)) c.in-Audit.is) refl
+    c.audit.ensures.usage c.audit.ensures.done (λ h start. (c.audit.ensures.first_same, c.audit.ensures.second_same)) c.audit.ensures.ends (each_held (g.F.Files.held c.args.files.now) _ (λ h. c.audit.ensures.names))
+
+pub returns-in-Audit-clause-crash : goal.returns-in-Audit-clause-crash
+returns-in-Audit-clause-crash g c =
+    asked_crashes g.D.Disk.content g.D.Disk.images g.D.Disk.moment g.D.Disk.images_since c.args.first.now c.audit.new.first c.args.second.now c.audit.new.second _ _ _ (audit c.in-Audit.relation.now c.in-Audit.file.now) _ (g.F.Files.held c.args.files.now) (ap (λ (k : naming.Command). Some (said k)) c.in-Audit.is) c.audit.ensures.ends
+
+pub returns-in-Report-clause-finishes : goal.returns-in-Report-clause-finishes
+returns-in-Report-clause-finishes g c =
+    asked_finishes g.D.Disk.content g.D.Disk.images g.D.Disk.moment g.D.Disk.images_since c.args.first.now c.report.new.first c.args.second.now c.report.new.second _ _ _ report _ (g.F.Files.held c.args.files.now) _ (ap (λ (k : naming.Command). Some (said k)) c.in-Report.is) refl
+    c.report.ensures.usage c.report.ensures.done (λ h start. (c.report.ensures.first_same, c.report.ensures.second_same)) (each_held (g.F.Files.held c.args.files.now) _ (λ h. c.report.ensures.ends)) (each_held (g.F.Files.held c.args.files.now) _ (λ h start rest. names_none (λ read. ⊥) c.report.result c.report.ensures.read))
+
+pub returns-in-Report-clause-crash : goal.returns-in-Report-clause-crash
+returns-in-Report-clause-crash g c =
+    asked_crashes g.D.Disk.content g.D.Disk.images g.D.Disk.moment g.D.Disk.images_since c.args.first.now c.report.new.first c.args.second.now c.report.new.second _ _ _ report _ (g.F.Files.held c.args.files.now) (ap (λ (k : naming.Command). Some (said k)) c.in-Report.is) (each_held (g.F.Files.held c.args.files.now) _ (λ h. c.report.ensures.ends))
+
+pub returns-in-Make-clause-finishes : goal.returns-in-Make-clause-finishes
+returns-in-Make-clause-finishes g c =
+    make_finishes g.D.Disk.content g.D.Disk.images g.D.Disk.moment g.D.Disk.images_since c.in-Make.number c.in-Make.size c.args.first.now c.make.new.first c.args.second.now c.make.new.second _ _ _ c.make.ensures.ends _ (g.F.Files.held c.args.files.now) _
+    (ap (λ (k : naming.Command). Some (said k)) c.in-Make.is) c.make.ensures.usage c.make.ensures.done (names_none (λ read. ⊥) c.make.result c.make.ensures.read)
+
+pub returns-in-Make-clause-crash : goal.returns-in-Make-clause-crash
+returns-in-Make-clause-crash g c =
+    make_crashes g.D.Disk.content g.D.Disk.images g.D.Disk.moment g.D.Disk.images_since c.in-Make.number c.in-Make.size c.args.first.now c.make.new.first c.args.second.now c.make.new.second _ _ _ c.make.ensures.ends _ (g.F.Files.held c.args.files.now)
+    (ap (λ (k : naming.Command). Some (said k)) c.in-Make.is)

@@ -1,0 +1,17 @@
+pub mod Ask
+pub mod Commands
+pub mod Disks
+pub mod Ends
+pub mod Inputs
+pub mod Load
+pub mod Make
+pub mod Outcome
+pub mod Plan
+pub mod Refresh
+pub mod RefreshSteps
+pub mod Report
+pub mod Run
+pub mod Show
+pub mod Steps
+pub mod Stop
+pub mod Words

@@ -1,6 +1,0 @@
-use Rattle.whc.specs.Ask.{query_in}
-use Rattle.whc.proofs.Asks.{answer_is}
-use Rattle.whc.proofs.ask.query_of.Goals as goal
-
-pub returns-clause-answer : goal.returns-clause-answer
-returns-clause-answer g c = λ image of. answer_is (query_in c.args.text.now) image c.args.warehouse.now c.in_ok-q.q _ of c.in_ok-q.ensures.answer (c.in_ok-rows_text.ensures.text image of)
