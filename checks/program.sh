@@ -1,7 +1,7 @@
 #!/usr/bin/env bash
 # Checks the program that the gate has proved and built, over real files: that the demo prints what the README says and the
-# tour of the bookshop what the tutorial says, that a store is loaded once, and that a stored table of more than 4,000,000
-# rows is refused. It takes some seconds.
+# tour of the bookshop what the tutorial says, that a store is loaded once, that a generated case is made, and that a stored
+# table of more than 4,000,000 rows is refused. It takes some seconds.
 # usage: checks/program.sh [PROGRAM]
 set -eu
 cd "$(dirname "$0")/.."
@@ -38,6 +38,20 @@ mkdir "$dir/store" "$dir/large" "$dir/dumps"
 same "a load" "$(printf 'status 0\nloaded: tables 3, rows 4')" "$(run "$dir/store" load examples/sales/spec.txt examples/sales/dumps)"
 same "a second load" "$(printf 'status 8\nalready loaded')" "$(run "$dir/store" load examples/sales/spec.txt examples/sales/dumps)"
 same "a dump" "$(printf 'status 0\nclerk,age\nJohn,25\nMary,23\nPaula,32')" "$(run "$dir/store" dump Emp)"
+
+# A generated case: it is loaded, its ten change files are taken, of which the last is refused, and the store is reported.
+wanted=$(
+    printf 'status 0\nloaded: tables 5, rows 3\n'
+    printf 'change-%s: refresh %s, sources -1 +1, stored -1 +1\n' 1 1 2 2
+    for c in 3 4 5 6 7 8 9; do echo "change-$c: refresh $c, sources -0 +1, stored -0 +1"; done
+    echo 'change-10: refused, inclusion 4 Emp(dept) in Dept(dept) lacks (0)'
+    printf '%s\n' 'refreshes 9' 'view Staff 1' 'view Work 0' 'complement Dept 0' 'complement Emp 0 always empty' 'complement Task 9'
+    printf '%s\n' 'relation Dept 1' 'relation Emp 1' 'relation Task 9' 'stored 10, sources 11'
+)
+mkdir "$dir/made"
+same "a made case" "$wanted" "$(run "$dir/made" make 0 1)"
+same "a case over it" "$(printf 'status 8\nalready loaded')" "$(run "$dir/made" make 0 1)"
+same "a report of it" "$(printf 'status 0\n'; sed -n '/^refreshes/,$p' <<<"$wanted")" "$(run "$dir/made" report)"
 
 # A view of 2,001 times 2,000 rows.
 printf 'relation A(a int) key (a);\nrelation B(b int) key (b);\nview P = A join B;\n' >"$dir/spec.txt"

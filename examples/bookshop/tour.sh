@@ -7,7 +7,7 @@ here=$(cd "$(dirname "$0")" && pwd)
 crate=$here/../../crates/whc
 work=$(mktemp -d)
 trap 'rm -rf "$work"' EXIT
-cp -r "$here/spec.txt" "$here/dumps" "$here/changes" "$here/closing.csv" "$work"
+cp -r "$here/spec.txt" "$here/dumps" "$here/changes" "$here/closing.csv" "$here/shops.csv" "$work"
 mkdir "$work/store"
 cd "$work"
 # Names of files stand beside the store; the program that is built from its sources runs in another folder.
@@ -36,3 +36,7 @@ tour 'whc refresh closing.csv'
 tour 'whc refresh changes/change-0[5-9].csv changes/change-[123]?.csv | tail -n 2'
 tour 'whc query "project (ord, cname, day) select (day >= 28 and ord >= 300) Buyers"'
 tour 'whc dump Shop | head -n 4'
+tour 'whc report'
+tour 'whc audit Shop shops.csv | tee audit.csv'
+tour 'whc refresh audit.csv'
+tour 'whc audit Shop shops.csv'
