@@ -158,9 +158,16 @@ const STORE_B: Story<'static> = Story {
     left: &[],
 };
 
-// A dump of a relation, and the relation's rows in row order.
-#[derive(Clone, Copy)]
-struct Dump<'a>(&'a str, &'a [u8], &'a str);
+// A dump, the change that leads there, and the relation's rows in row order then. The words ask for the change, make it,
+// and ask for the rows.
+struct Dump<'a> {
+    audit: &'a [&'a str],
+    refresh: &'a [&'a str],
+    dump: &'a [&'a str],
+    held: &'a [(&'a str, &'a [u8])],
+    change: &'a [u8],
+    rows: &'a [u8],
+}
 
 // Makes the change that an audit prints, and audits again.
 fn audits_come_true(
@@ -170,22 +177,13 @@ fn audits_come_true(
     store: &mut Store,
     dump: &Dump<'_>,
 ) -> Result<(), NoMemory> {
-    let Dump(relation, bytes, rows) = dump;
-    let held = [("f.csv", *bytes)];
-    let words = ["audit", *relation, "f.csv"];
-    let change = printed(rt, alloc, counts, store, &show(&words, &held))?;
-    let changes = [("change", change.as_bytes())];
-    printed(
-        rt,
-        alloc,
-        counts,
-        store,
-        &show(&["refresh", "change"], &changes),
-    )?;
-    let again = printed(rt, alloc, counts, store, &show(&words, &held))?;
-    assert!(rt; again.as_bytes().is_empty(), "{relation}");
-    let dumped = printed(rt, alloc, counts, store, &show(&["dump", *relation], &[]))?;
-    assert!(rt; dumped.as_bytes() == rows.as_bytes(), "{relation}");
+    let change = printed(rt, alloc, counts, store, &show(dump.audit, dump.held))?;
+    assert!(rt; change.as_bytes() == dump.change);
+    printed(rt, alloc, counts, store, &show(dump.refresh, dump.held))?;
+    let again = printed(rt, alloc, counts, store, &show(dump.audit, dump.held))?;
+    assert!(rt; again.as_bytes().is_empty());
+    let rows = printed(rt, alloc, counts, store, &show(dump.dump, dump.held))?;
+    assert!(rt; rows.as_bytes() == dump.rows);
     Ok(())
 }
 
@@ -202,20 +200,74 @@ fn all_come_true(
     Ok(())
 }
 
+const REFRESH: &[&str] = &["refresh", "change"];
+
+const AUDIT_SALE: &[&str] = &["audit", "Sale", "f.csv"];
+
+const DUMP_EMP: &[&str] = &["dump", "Emp"];
+
+const DUMP_SALE: &[&str] = &["dump", "Sale"];
+
+const JOHN_IS_OLDER: &[u8] = b"-,Emp,John,25\n+,Emp,John,26\n";
+
+const LI_COMES: &[u8] = b"-,Emp,Mary,23\n-,Emp,Paula,32\n+,Emp,\"Li, A\",40\n+,Emp,Mary,-1\n";
+
+const OTHER_SALES: &[u8] = b"-,Sale,PC,John\n-,Sale,VCR,Mary\n+,Sale,\"a \"\"b\"\"\",John\n";
+
+const NO_SALES: &[u8] = b"-,Sale,TV,Mary\n-,Sale,\"a \"\"b\"\"\",John\n";
+
+const NO_CLERKS: &[u8] = b"-,Emp,John,26\n-,Emp,\"Li, A\",40\n-,Emp,Mary,-1\n";
+
 const DUMPS: &[Dump<'static>] = &[
-    Dump("Emp", OLDER, "clerk,age\nJohn,26\nMary,23\nPaula,32\n"),
-    Dump(
-        "Emp",
-        b"clerk,age\r\n\"Li, A\",40\r\nMary,-1\r\nJohn,26\r\n\"Li, A\",40\r\n",
-        "clerk,age\nJohn,26\n\"Li, A\",40\nMary,-1\n",
-    ),
-    Dump(
-        "Sale",
-        b"clerk,item\nMary,TV\nJohn,\"a \"\"b\"\"\"\n",
-        "item,clerk\nTV,Mary\n\"a \"\"b\"\"\",John\n",
-    ),
-    Dump("Sale", b"item,clerk\n", "item,clerk\n"),
-    Dump("Emp", b"clerk,age\n", "clerk,age\n"),
+    Dump {
+        audit: AUDIT,
+        refresh: REFRESH,
+        dump: DUMP_EMP,
+        held: &[("f.csv", OLDER), ("change", JOHN_IS_OLDER)],
+        change: JOHN_IS_OLDER,
+        rows: b"clerk,age\nJohn,26\nMary,23\nPaula,32\n",
+    },
+    Dump {
+        audit: AUDIT,
+        refresh: REFRESH,
+        dump: DUMP_EMP,
+        held: &[
+            (
+                "f.csv",
+                b"clerk,age\r\n\"Li, A\",40\r\nMary,-1\r\nJohn,26\r\n\"Li, A\",40\r\n",
+            ),
+            ("change", LI_COMES),
+        ],
+        change: LI_COMES,
+        rows: b"clerk,age\nJohn,26\n\"Li, A\",40\nMary,-1\n",
+    },
+    Dump {
+        audit: AUDIT_SALE,
+        refresh: REFRESH,
+        dump: DUMP_SALE,
+        held: &[
+            ("f.csv", b"clerk,item\nMary,TV\nJohn,\"a \"\"b\"\"\"\n"),
+            ("change", OTHER_SALES),
+        ],
+        change: OTHER_SALES,
+        rows: b"item,clerk\nTV,Mary\n\"a \"\"b\"\"\",John\n",
+    },
+    Dump {
+        audit: AUDIT_SALE,
+        refresh: REFRESH,
+        dump: DUMP_SALE,
+        held: &[("f.csv", b"item,clerk\n"), ("change", NO_SALES)],
+        change: NO_SALES,
+        rows: b"item,clerk\n",
+    },
+    Dump {
+        audit: AUDIT,
+        refresh: REFRESH,
+        dump: DUMP_EMP,
+        held: &[("f.csv", b"clerk,age\n"), ("change", NO_CLERKS)],
+        change: NO_CLERKS,
+        rows: b"clerk,age\n",
+    },
 ];
 
 #[test]
