@@ -14,60 +14,155 @@ fn text(alloc: Global, bytes: &[u8]) -> Result<ByteText, NoMemory> {
     Ok(text)
 }
 
-#[test]
-fn files_are_read_and_a_sink_takes_a_part(rt: HostRuntime) -> Result<(), Fail> {
-    let alloc = rt.alloc();
+// A name, the most bytes to read, and what is read or why nothing is.
+type Read<'a> = (&'a str, u64, Result<&'a [u8], FileFault>);
+
+// The file `a` holds `text`, and the fourth read fails.
+const READS: &[Read<'_>] = &[
+    ("a", 4, Ok(b"text")),
+    ("b", 4, Err(FileFault::Missing)),
+    ("a", 3, Err(FileFault::TooLong)),
+    ("a", 4, Err(FileFault::Failed)),
+    ("a", 5, Ok(b"text")),
+];
+
+// The file `a` alone.
+fn one_file(alloc: Global, fails: &[u64]) -> Result<Option<MemFiles>, NoMemory> {
     let mut names = Names::new(alloc);
     let mut contents = Texts::new(alloc);
     names.push(Name::from_vec(b"a".to_vec(alloc)?))?;
     contents.push(text(alloc, b"text")?)?;
-    assert_eq!(rt; names.len(), contents.len());
-    let mut files = MemFiles::new(names, contents, numbers(alloc, &[4])?);
-    let read = files.read(alloc, "a", 4).map_err(|_| "not read")?;
-    assert_eq!(rt; read.as_bytes(), b"text".as_slice());
-    assert_eq!(rt; files.read(alloc, "b", 4).err(), Some(FileFault::Missing));
-    assert_eq!(rt; files.read(alloc, "a", 3).err(), Some(FileFault::TooLong));
-    assert_eq!(rt; files.read(alloc, "a", 4).err(), Some(FileFault::Failed));
+    if names.len() != contents.len() {
+        return Ok(None);
+    }
+    Ok(Some(MemFiles::new(names, contents, numbers(alloc, fails)?)))
+}
 
-    let mut sink = MemSink::new(alloc, 2, 5, numbers(alloc, &[2])?)?;
-    assert_eq!(rt; sink.write(b"abc").ok(), Some(2));
-    assert_eq!(rt; sink.write(b"abc").ok(), None);
-    assert_eq!(rt; write_all(&mut sink, b"cde").is_ok(), true);
-    assert_eq!(rt; sink.write(b"f").ok(), None);
-    assert_eq!(rt; sink.taken(), b"abcde".as_slice());
+fn is_read(alloc: Global, files: &mut MemFiles, read: &Read<'_>) -> bool {
+    let (name, limit, told) = read;
+    match (files.read(alloc, name, *limit), told) {
+        (Ok(text), Ok(bytes)) => text.as_bytes() == *bytes,
+        (Err(fault), Err(told)) => fault == *told,
+        _ => false,
+    }
+}
+
+fn are_read(alloc: Global, files: &mut MemFiles) -> bool {
+    for read in READS {
+        if !is_read(alloc, files, read) {
+            return false;
+        }
+    }
+    true
+}
+
+#[test]
+fn files_are_read(rt: HostRuntime) -> Result<(), Fail> {
+    let alloc = rt.alloc();
+    match one_file(alloc, &[4])? {
+        Some(mut files) => assert!(rt; are_read(alloc, &mut files)),
+        None => assert!(rt; false, "no file"),
+    }
     Ok(())
+}
+
+// Pieces, and how many bytes of each a sink takes that takes two at a time and five in all, and whose second call fails.
+const PIECES: &[(&[u8], Option<usize>)] = &[
+    (b"abc", Some(2)),
+    (b"abc", None),
+    (b"cde", Some(2)),
+    (b"e", Some(1)),
+    (b"f", None),
+];
+
+fn are_taken(sink: &mut MemSink) -> bool {
+    for (piece, told) in PIECES {
+        if piece.is_empty() || sink.write(piece).ok() != *told {
+            return false;
+        }
+    }
+    true
+}
+
+fn takes_parts(alloc: Global) -> Result<bool, NoMemory> {
+    let mut sink = MemSink::new(alloc, 2, 5, numbers(alloc, &[2])?)?;
+    Ok(are_taken(&mut sink) && sink.taken() == b"abcde".as_slice())
+}
+
+fn takes_all(alloc: Global) -> Result<bool, NoMemory> {
+    let mut sink = MemSink::new(alloc, 2, 5, Numbers::new(alloc))?;
+    Ok(write_all(&mut sink, b"abcde").is_ok() && sink.taken() == b"abcde".as_slice())
+}
+
+#[test]
+fn a_sink_takes_a_part(rt: HostRuntime) -> Result<(), Fail> {
+    assert!(rt; takes_parts(rt.alloc())?);
+    assert!(rt; takes_all(rt.alloc())?);
+    Ok(())
+}
+
+#[derive(Drop)]
+enum Call<'a> {
+    Length,
+    Write(u64, &'a [u8]),
+    Cut(u64),
+    Sync,
+}
+
+// A call of a disk, whether it is answered, and the content after it and after a torn crash whose fill is `x`.
+type Moment<'a> = (Call<'a>, bool, &'a [u8], &'a [u8]);
+
+// The disk holds `0123`, and its fourth call fails: what that would have written is lost, and pending.
+const MOMENTS: &[Moment<'_>] = &[
+    (Call::Length, true, b"0123", b"0123"),
+    (Call::Write(1, b"ab"), true, b"0ab3", b"0xx3"),
+    (Call::Sync, true, b"0ab3", b"0ab3"),
+    (Call::Write(4, b"cd"), false, b"0ab3", b"0ab3xx"),
+    (Call::Cut(2), true, b"0a", b"0axxxx"),
+];
+
+fn is_answered(disk: &mut MemDisk, call: &Call<'_>) -> bool {
+    let length = disk.content().len() as u64;
+    match call {
+        Call::Length => disk.length().ok() == Some(length),
+        Call::Write(at, bytes) => *at <= length && disk.write_at(*at, bytes).is_ok(),
+        Call::Cut(to) => *to <= length && disk.cut(*to).is_ok(),
+        Call::Sync => disk.sync().is_ok(),
+    }
+}
+
+fn is_left(alloc: Global, disk: &MemDisk, content: &[u8], torn: &[u8]) -> Result<bool, NoMemory> {
+    let whole = disk.after_crash(alloc, b'x', false)?;
+    let filled = disk.after_crash(alloc, b'x', true)?;
+    Ok(disk.content() == content && whole.content() == content && filled.content() == torn)
+}
+
+fn all_are_left(alloc: Global, disk: &mut MemDisk) -> Result<bool, NoMemory> {
+    for (call, told, content, torn) in MOMENTS {
+        if is_answered(disk, call) != *told || !is_left(alloc, disk, content, torn)? {
+            return Ok(false);
+        }
+    }
+    Ok(true)
+}
+
+// Whether a byte of the disk is read, and counted.
+fn is_byte_read(disk: &mut MemDisk, at: u64, byte: u8) -> bool {
+    let mut into = [0u8; 1];
+    at < disk.content().len() as u64
+        && disk.read_at(at, &mut into).is_ok()
+        && into[0] == byte
+        && disk.bytes_read() == 1
+}
+
+fn is_kept(alloc: Global) -> Result<bool, NoMemory> {
+    let content = text(alloc, b"0123")?;
+    let mut disk = MemDisk::new(alloc, content, 10, 10, numbers(alloc, &[4])?)?;
+    Ok(all_are_left(alloc, &mut disk)? && is_byte_read(&mut disk, 1, b'a'))
 }
 
 #[test]
 fn a_crash_leaves_what_was_synced(rt: HostRuntime) -> Result<(), Fail> {
-    let alloc = rt.alloc();
-    let mut disk = MemDisk::new(alloc, text(alloc, b"0123")?, 10, 10, numbers(alloc, &[4])?)?;
-    assert!(rt; disk.length().ok() == Some(4));
-    assert!(rt; disk.content().len() == 4);
-    assert!(rt; disk.write_at(1, b"ab").is_ok());
-    assert!(rt; disk.sync().is_ok());
-    assert!(rt; disk.content().len() == 4);
-    assert!(rt; disk.write_at(4, b"cd").is_err());
-    assert_eq!(rt; disk.content(), b"0ab3".as_slice());
-    assert_eq!(rt;
-        disk.after_crash(alloc, b'x', false)?.content(),
-        b"0ab3".as_slice()
-    );
-    assert_eq!(rt;
-        disk.after_crash(alloc, b'x', true)?.content(),
-        b"0ab3xx".as_slice()
-    );
-    assert!(rt; disk.content().len() == 4);
-    assert!(rt; disk.cut(2).is_ok());
-    assert_eq!(rt; disk.content(), b"0a".as_slice());
-    assert_eq!(rt;
-        disk.after_crash(alloc, b'x', true)?.content(),
-        b"0axxxx".as_slice()
-    );
-    let mut into = [0u8; 1];
-    assert!(rt; disk.content().len() == 2);
-    assert!(rt; disk.read_at(1, &mut into).is_ok());
-    assert_eq!(rt; into, [b'a']);
-    assert_eq!(rt; disk.bytes_read(), 1);
+    assert!(rt; is_kept(rt.alloc())?);
     Ok(())
 }

@@ -92,15 +92,28 @@ fn disk(alloc: Global, bytes: &[u8]) -> Result<MemDisk, NoMemory> {
     MemDisk::new(alloc, content, 200, 20, Numbers::new(alloc))
 }
 
-#[test]
-fn the_first_broken_constraint_is_told(rt: HostRuntime) -> Result<(), Fail> {
-    let alloc = rt.alloc();
-    let mut steps = Steps::new(&rt, NoLedger);
+// Whether the first broken constraint of each change of a store is told.
+fn is_store_told(
+    alloc: Global,
+    first: &mut MemDisk,
+    second: &mut MemDisk,
+    steps: &mut Steps<NoLedger>,
+) -> Result<bool, NoMemory> {
+    match open_store(alloc, first, second) {
+        Ok((w, _place)) => are_told(alloc, &w, steps),
+        Err(_) => Ok(false),
+    }
+}
+
+fn all_are_told(alloc: Global, steps: &mut Steps<NoLedger>) -> Result<bool, NoMemory> {
     let mut first = disk(alloc, STORE)?;
     let mut second = disk(alloc, b"")?;
-    match open_store(alloc, &mut first, &mut second) {
-        Ok((w, _place)) => assert!(rt; are_told(alloc, &w, &mut steps)?),
-        Err(_) => assert!(rt; false, "the bytes are no store"),
-    }
+    is_store_told(alloc, &mut first, &mut second, steps)
+}
+
+#[test]
+fn the_first_broken_constraint_is_told(rt: HostRuntime) -> Result<(), Fail> {
+    let mut steps = Steps::new(&rt, NoLedger);
+    assert!(rt; all_are_told(rt.alloc(), &mut steps)?);
     Ok(())
 }

@@ -76,9 +76,12 @@ fn warehouse(alloc: Global) -> Result<Warehouse, StoreFault>
 // Commits the change behind the frames of the first file.
 fn commit_change<D: Disk>(
     alloc: Global,
+    w: &mut Warehouse,
     first: &mut D,
     second: &mut D,
-) -> Result<(Warehouse, Place), StoreFault> {
+) -> Result<Place, StoreFault>
+    requires { w.old.tables ≡ record { rows = []; width = 1; indexes = []; spare = 0 } ∷ [] }
+{
     let Ok(found) = recover(alloc, first) else {
         return Err(StoreFault::DiskFault);
     };
@@ -89,7 +92,6 @@ fn commit_change<D: Disk>(
     else {
         return Err(StoreFault::NotLoaded);
     };
-    let mut w = warehouse(alloc)?;
     let mut place = Place {
         which: Which::First,
         generation: 1,
@@ -98,28 +100,37 @@ fn commit_change<D: Disk>(
     };
     let r = w.ready(alloc, &place, one_delta(alloc)?)?;
     w.commit(&mut place, r, first, second)?;
-    Ok((w, place))
+    Ok(place)
+}
+
+fn is_changed(w: &Warehouse, place: &Place) -> bool {
+    let end = Journal {
+        end: 105,
+        length: 106,
+    };
+    w.seq == 1 && w.tables.len() == 1 && place.live && place.journal == end
+}
+
+// Whether a file has the frame of the change, its mark and a closed one.
+fn is_appended(bytes: &[u8]) -> bool {
+    bytes.len() == 106 && bytes[65] == 1 && &bytes[74..105] == CHANGE.as_slice()
+}
+
+fn commits<D: Disk>(alloc: Global, first: &mut D, second: &mut D) -> Result<bool, StoreFault> {
+    let mut w = warehouse(alloc)?;
+    let place = commit_change(alloc, &mut w, first, second)?;
+    Ok(is_changed(&w, &place))
+}
+
+fn is_committed(alloc: Global) -> Result<bool, NoMemory> {
+    let mut first = disk_of(alloc, FILE, Numbers::new(alloc))?;
+    let mut second = disk_of(alloc, b"", Numbers::new(alloc))?;
+    let is_changed = matches!(commits(alloc, &mut first, &mut second), Ok(true));
+    Ok(is_changed && is_appended(first.content()) && second.content().is_empty())
 }
 
 #[test]
 fn a_change_is_committed(rt: HostRuntime) -> Result<(), Fail> {
-    let alloc = rt.alloc();
-    let mut first = disk_of(alloc, FILE, Numbers::new(alloc))?;
-    let mut second = disk_of(alloc, b"", Numbers::new(alloc))?;
-    let made = commit_change(alloc, &mut first, &mut second).ok();
-    assert!(rt;
-        made.is_some_and(|(w, place)| w.seq == 1
-            && w.tables.len() == 1
-            && place.live
-            && place.journal
-                == Journal {
-                    end: 105,
-                    length: 106
-                })
-    );
-    assert_eq!(rt; first.content().len(), 106);
-    assert!(rt; first.content()[65] == 1);
-    assert!(rt; &first.content()[74..105] == CHANGE.as_slice());
-    assert_eq!(rt; second.content().len(), 0);
+    assert!(rt; is_committed(rt.alloc())?);
     Ok(())
 }

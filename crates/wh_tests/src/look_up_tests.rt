@@ -251,15 +251,51 @@ fn first_with<L: Ledger>(
     stored.first_where(alloc, n, &cols, &vals, steps)
 }
 
-// What is found of Mary in the view and among the clerks, and the rows of three clerks by key.
+// What is found in the view: the rows of Mary, and a row of John.
+#[derive(Drop)]
+struct InView {
+    mary: Option<(Rows, Rows)>,
+    john: Option<Row>,
+}
+
+fn found_in_view<L: Ledger>(
+    alloc: Global,
+    stored: &Stored<'_>,
+    steps: &mut Steps<L>,
+) -> Result<InView, NoMemory>
+    requires held { IsTrue (is_stored stored.now.heads.now stored.now.tables.now 2) }
+    requires within { 2 < length stored.now.heads.now }
+{
+    Ok(InView {
+        mary: rows_with(alloc, stored, SOLD, b"clerk", b"Mary", steps)?,
+        john: first_with(alloc, stored, SOLD, b"clerk", b"John", steps)?,
+    })
+}
+
+// The clerks by their key.
+fn clerks<L: Ledger>(
+    alloc: Global,
+    inverse: &Inverse<'_, Stored<'_>>,
+    names: &[&[u8]],
+    steps: &mut Steps<L>,
+) -> Result<Vec<Option<Row>>, NoMemory>
+    requires relation { 0 < length inverse.now.plan.now.spec.relations }
+    requires indexed { HaveIndexes inverse.now.plan.now.spec inverse.now.below.now.heads.now inverse.now.below.now.tables.now }
+{
+    let mut found = Vec::new(alloc);
+    for name in names {
+        let key = one_word(alloc, name)?;
+        found.push(inverse.by_key(alloc, EMP, &key, steps)?)?;
+    }
+    Ok(found)
+}
+
+// What is found in the view, of Mary among the clerks, and of three clerks by their key.
 #[derive(Drop)]
 struct Found {
-    sold: Option<(Rows, Rows)>,
-    first: Option<Row>,
-    emp: Option<(Rows, Rows)>,
-    john: Option<Row>,
-    paula: Option<Row>,
-    zoe: Option<Row>,
+    sold: InView,
+    mary: Option<(Rows, Rows)>,
+    clerks: Vec<Option<Row>>,
 }
 
 fn look_up<L: Ledger>(
@@ -283,54 +319,85 @@ fn look_up<L: Ledger>(
     let stored = Stored::new(heads, tables);
     let inverse = Inverse::new(plan, &stored);
     Ok(Found {
-        sold: rows_with(alloc, &stored, SOLD, b"clerk", b"Mary", steps)?,
-        first: first_with(alloc, &stored, SOLD, b"clerk", b"John", steps)?,
-        emp: rows_with(alloc, &inverse, EMP, b"clerk", b"Mary", steps)?,
-        john: inverse.by_key(alloc, EMP, &one_word(alloc, b"John")?, steps)?,
-        paula: inverse.by_key(alloc, EMP, &one_word(alloc, b"Paula")?, steps)?,
-        zoe: inverse.by_key(alloc, EMP, &one_word(alloc, b"Zoe")?, steps)?,
+        sold: found_in_view(alloc, &stored, steps)?,
+        mary: rows_with(alloc, &inverse, EMP, b"clerk", b"Mary", steps)?,
+        clerks: clerks(alloc, &inverse, &[b"John", b"Paula", b"Zoe"], steps)?,
     })
 }
 
-fn looked_up<L: Ledger>(alloc: Global, steps: &mut Steps<L>) -> Result<Option<Found>, NoMemory> {
-    let Some(plan) = planned(alloc) else {
-        return Ok(None);
-    };
+fn look_up_over<L: Ledger>(
+    alloc: Global,
+    plan: &Plan,
+    steps: &mut Steps<L>,
+) -> Result<Option<Found>, NoMemory>
+    requires plan { IsPlan plan.now }
+    requires rules { WellFormed plan.now.spec }
+    requires numbered { IsNumbered plan.now.spec }
+{
     let spec = &plan.spec;
     if spec.relations.len() != 2 || spec.views.len() != 1 || !have_keys(spec) {
         return Ok(None);
     }
     let heads = heads(alloc, spec)?;
-    let tables = tables_of(alloc, &plan, &heads)?;
-    Ok(Some(look_up(alloc, &plan, &heads, &tables, steps)?))
+    let tables = tables_of(alloc, plan, &heads)?;
+    Ok(Some(look_up(alloc, plan, &heads, &tables, steps)?))
+}
+
+fn looked_up<L: Ledger>(alloc: Global, steps: &mut Steps<L>) -> Result<Option<Found>, NoMemory> {
+    match planned(alloc) {
+        Some(plan) => look_up_over(alloc, &plan, steps),
+        None => Ok(None),
+    }
+}
+
+// Whether rows were found twice, by the base and by an expression.
+fn are_rows(
+    alloc: Global,
+    found: Option<(Rows, Rows)>,
+    listed: &[Listed<'_>],
+) -> Result<bool, NoMemory> {
+    let told = rows(alloc, listed)?;
+    Ok(found.is_some_and(|(at, bound)| at == told && bound == told))
+}
+
+fn is_row(
+    alloc: Global,
+    found: Option<&Option<Row>>,
+    listed: &Listed<'_>,
+) -> Result<bool, NoMemory> {
+    let told = row(alloc, listed)?;
+    Ok(matches!(found, Some(Some(found)) if *found == told))
+}
+
+fn is_in_view(alloc: Global, found: InView) -> Result<bool, NoMemory> {
+    let InView { mary, john } = found;
+    Ok(is_row(alloc, Some(&john), &SOLD_ROWS[0])? && are_rows(alloc, mary, &SOLD_ROWS[1..])?)
+}
+
+fn are_clerks(alloc: Global, found: &[Option<Row>]) -> Result<bool, NoMemory> {
+    Ok(
+        is_row(alloc, found.get(0), &(&[b"John"], 25))?
+            && is_row(alloc, found.get(1), &EMP_COMPLEMENT[0])?
+            && matches!(found.get(2), Some(None)),
+    )
+}
+
+fn is_found(alloc: Global, found: Found) -> Result<bool, NoMemory> {
+    let Found { sold, mary, clerks } = found;
+    Ok(
+        is_in_view(alloc, sold)?
+            && are_rows(alloc, mary, &[(&[b"Mary"], 23)])?
+            && are_clerks(alloc, &clerks)?,
+    )
 }
 
 #[test]
 fn rows_are_looked_up(rt: HostRuntime) -> Result<(), Fail> {
     let alloc = rt.alloc();
     let mut steps = Steps::new(&rt, CountLedger::new());
-    let made = looked_up(alloc, &mut steps)?;
-    assert!(rt; made.is_some());
-    if let Some(found) = made {
-        let mary = rows(alloc, &SOLD_ROWS[1..])?;
-        assert!(rt;
-            found
-                .sold
-                .is_some_and(|(at, bound)| at == mary && bound == mary)
-        );
-        let first = row(alloc, &SOLD_ROWS[0])?;
-        assert!(rt; found.first.is_some_and(|r| r == first));
-        let mary = rows(alloc, &[(&[b"Mary"], 23)])?;
-        assert!(rt;
-            found
-                .emp
-                .is_some_and(|(at, bound)| at == mary && bound == mary)
-        );
-        let john = row(alloc, &(&[b"John"], 25))?;
-        assert!(rt; found.john.is_some_and(|r| r == john));
-        let paula = row(alloc, &EMP_COMPLEMENT[0])?;
-        assert!(rt; found.paula.is_some_and(|r| r == paula));
-        assert!(rt; found.zoe.is_none());
+    match looked_up(alloc, &mut steps)? {
+        Some(found) => assert!(rt; is_found(alloc, found)?),
+        None => assert!(rt; false, "nothing is planned"),
     }
     assert_eq!(rt; steps.ledger().scans, 0);
     Ok(())
