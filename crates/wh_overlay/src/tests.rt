@@ -146,6 +146,14 @@ fn one_value(alloc: Global, value: i64) -> Result<Row, NoMemory>
     Ok(row)
 }
 
+// All sales, those of clerk 2, and the sales with the ages of their clerks.
+#[derive(Drop)]
+struct Sales {
+    all: Rows,
+    of_clerk: Rows,
+    joined: Rows,
+}
+
 fn sales_of_clerk<B: Base, L: Ledger>(
     alloc: Global,
     base: &B,
@@ -162,94 +170,42 @@ fn sales_of_clerk<B: Base, L: Ledger>(
     base.rows_where(alloc, SALE, &cols, &vals, steps)
 }
 
-// The sales with the ages of their clerks.
-fn sales_with_ages<L: Ledger>(
+fn found<L: Ledger>(
     alloc: Global,
     heads: &Heads,
-    changed: &Overlay<'_, Overlay<'_, Lists<'_>>>,
+    state: &State,
     steps: &mut Steps<L>,
-) -> Result<Rows, NoMemory>
+) -> Result<Sales, NoMemory>
     requires heads { length heads.now ≡ 2 }
-    requires deltas { length changed.now.deltas.now ≡ 2 }
-{
-    let both = joined(alloc, heads)?;
-    eval(alloc, &both, changed, steps)
-}
-
-// All sales, those of clerk 2, and the sales with the ages of their clerks.
-fn sales_of<L: Ledger>(
-    alloc: Global,
-    heads: &Heads,
-    changed: &Overlay<'_, Overlay<'_, Lists<'_>>>,
-    steps: &mut Steps<L>,
-) -> Result<Vec<Rows>, NoMemory>
-    requires heads { length heads.now ≡ 2 }
-    requires deltas { length changed.now.deltas.now ≡ 2 }
-{
-    let mut found = Vec::new(alloc);
-    found.push(changed.rows(alloc, SALE, steps)?)?;
-    found.push(sales_of_clerk(alloc, changed, steps)?)?;
-    found.push(sales_with_ages(alloc, heads, changed, steps)?)?;
-    Ok(found)
-}
-
-// The sales after both changes.
-fn changed_twice<L: Ledger>(
-    alloc: Global,
-    heads: &Heads,
-    lists: &Lists<'_>,
-    steps: &mut Steps<L>,
-) -> Result<Vec<Rows>, NoMemory>
-    requires heads { length heads.now ≡ 2 }
-    requires lists { length lists.now.rows.now ≡ 2 }
+    requires state { length state.now ≡ 2 }
+    requires distinct { HasDistinctRows state.now }
 {
     let first = first(alloc)?;
-    let once = Overlay::new(alloc, lists, &first)?;
     let second = second(alloc)?;
+    let lists = Lists::new(heads, state);
+    let once = Overlay::new(alloc, &lists, &first)?;
     let twice = Overlay::new(alloc, &once, &second)?;
-    sales_of(alloc, heads, &twice, steps)
-}
-
-fn three_clerks(alloc: Global) -> Result<State, NoMemory>
-    ensures count { IfOk result (λ state. length state ≡ 2) }
-    ensures distinct { IfOk result HasDistinctRows }
-{
-    let emp = rows(alloc, &[&[1, 20], &[2, 30], &[3, 40]])?;
-    let sale = rows(alloc, &[&[10, 1], &[11, 2], &[12, 3]])?;
-    state(alloc, emp, sale)
-}
-
-fn changed_sales<L: Ledger>(alloc: Global, steps: &mut Steps<L>) -> Result<Vec<Rows>, NoMemory> {
-    let heads = heads(alloc)?;
-    let state = three_clerks(alloc)?;
-    let lists = Lists::new(&heads, &state);
-    changed_twice(alloc, &heads, &lists, steps)
-}
-
-const SALES: &[Listed<'_>] = &[
-    &[&[11, 2], &[12, 3], &[13, 4], &[15, 1]],
-    &[&[11, 2]],
-    &[&[11, 2, 30], &[12, 3, 40], &[15, 1, 21]],
-];
-
-fn are_listed(alloc: Global, found: Vec<Rows>, listed: &[Listed<'_>]) -> Result<bool, NoMemory> {
-    if found.len() != listed.len() {
-        return Ok(false);
-    }
-    for (found, listed) in found.into_iter().zip(listed.iter()) {
-        if sort_rows(found)? != rows(alloc, listed)? {
-            return Ok(false);
-        }
-    }
-    Ok(true)
+    let both = joined(alloc, heads)?;
+    Ok(Sales {
+        all: twice.rows(alloc, SALE, steps)?,
+        of_clerk: sales_of_clerk(alloc, &twice, steps)?,
+        joined: eval(alloc, &both, &twice, steps)?,
+    })
 }
 
 #[test]
 fn changes_are_laid_over_each_other(rt: HostRuntime) -> Result<(), Fail> {
     let alloc = rt.alloc();
     let mut steps = Steps::new(&rt, CountLedger::new());
-    let found = changed_sales(alloc, &mut steps)?;
-    assert!(rt; are_listed(alloc, found, SALES)?);
+    let emp = rows(alloc, &[&[1, 20], &[2, 30], &[3, 40]])?;
+    let sale = rows(alloc, &[&[10, 1], &[11, 2], &[12, 3]])?;
+    let state = state(alloc, emp, sale)?;
+    let found = found(alloc, &heads(alloc)?, &state, &mut steps)?;
+    let sales = rows(alloc, &[&[11, 2], &[12, 3], &[13, 4], &[15, 1]])?;
+    assert_eq!(rt; sort_rows(found.all)?, sales);
+    assert_eq!(rt; found.of_clerk, rows(alloc, &[&[11, 2]])?);
+    let joined = rows(alloc, &[&[11, 2, 30], &[12, 3, 40], &[15, 1, 21]])?;
+    assert_eq!(rt; sort_rows(found.joined)?, joined);
     // Each list below is read as a whole once for each time that it is asked for.
     assert_eq!(rt; steps.ledger().scans, 3);
     Ok(())
