@@ -1,7 +1,8 @@
 #!/usr/bin/env bash
 # Checks the program that the gate has proved and built, over real files: that the demo prints what the README says and the
-# tour of the bookshop what the tutorial says, that a store is loaded once, that a generated case is made, and that a stored
-# table of more than 4,000,000 rows is refused. It takes some seconds.
+# tour of the bookshop what the tutorial says, that a store is loaded once, that a generated case is made, that a stored table
+# of more than 4,000,000 rows is refused, and what comes of closed streams, pipes and interrupted calls. It takes some
+# seconds, and says where a tool is missing.
 # usage: checks/program.sh [PROGRAM]
 set -eu
 cd "$(dirname "$0")/.."
@@ -19,10 +20,10 @@ same() {
     fi
 }
 
-# The status, standard output and standard error of a run, one after another.
+# The status, standard output and standard error of a run, which is stopped after a minute, one after another.
 run() {
     local status=0
-    "$whc" "$@" >"$dir/out" 2>"$dir/err" || status=$?
+    timeout 60 "$whc" "$@" >"$dir/out" 2>"$dir/err" || status=$?
     printf 'status %s\n' "$status"
     cat "$dir/out" "$dir/err"
 }
@@ -59,6 +60,51 @@ printf 'relation A(a int) key (a);\nrelation B(b int) key (b);\nview P = A join 
 { echo b; seq 2000; } >"$dir/dumps/B.csv"
 same "a table with too many rows" "$(printf 'status 10\nlimit: rows of P')" "$(run "$dir/large" load "$dir/spec.txt" "$dir/dumps")"
 same "the store that was not loaded" "" "$(ls "$dir/large")"
+
+# Standard streams that are closed or full. The store is none of them: what was done stands, and what was there stays.
+sales=examples/sales
+mkdir "$dir/closed"
+status=0; "$whc" "$dir/closed" load $sales/spec.txt $sales/dumps >&- 2>"$dir/err" || status=$?
+same "a load with standard output closed" "6 write fault" "$status $(cat "$dir/err")"
+same "the store that it made" "$(run "$dir/store" report)" "$(run "$dir/closed" report)"
+status=0; "$whc" "$dir/closed" refresh $sales/changes/monday.csv <&- >&- 2>"$dir/err" || status=$?
+same "a refresh with standard input and output closed" "6 write fault" "$status $(cat "$dir/err")"
+same "the store that it changed" "$(printf 'status 0\nclerk,age\nJohn,26\nMary,23\nPaula,32')" "$(run "$dir/closed" dump Emp)"
+rm "$dir"/closed/*
+status=0; "$whc" "$dir/closed" load $sales/spec.txt $sales/dumps >/dev/full 2>&- || status=$?
+same "a load with a full output and standard error closed" "6" "$status"
+same "the store of a full output" "$(run "$dir/store" report)" "$(run "$dir/closed" report)"
+status=0; "$whc" "$dir/closed" refresh /dev/stdin <&- >"$dir/out" 2>"$dir/err" || status=$?
+same "a change file from a closed input" "5 read fault: /dev/stdin" "$status $(cat "$dir/out" "$dir/err")"
+same "a change file from an input" "$(printf 'status 0\n/dev/stdin: refresh 1, sources -1 +2, stored -2 +2')" "$(run "$dir/closed" refresh /dev/stdin <$sales/changes/monday.csv)"
+same "a change file from a pipe" "$(printf 'status 0\n/dev/stdin: refresh 2, sources -0 +0, stored -0 +0')" "$(cat $sales/changes/monday.csv | run "$dir/closed" refresh /dev/stdin)"
+
+# Files that are no regular ones are refused at once, and a long file that is empty is not read.
+if mkfifo "$dir/pipe" 2>/dev/null; then
+    mkdir "$dir/piped"
+    mkfifo "$dir/piped/first.wh"
+    same "a pipe in the place of the store" "$(printf 'status 7\ndisk fault')" "$(run "$dir/piped" report)"
+    same "a pipe as a change file" "$(printf 'status 5\nread fault: %s' "$dir/pipe")" "$(run "$dir/closed" refresh "$dir/pipe")"
+else
+    echo "checks: no pipe can be made here, so none is tried"
+fi
+same "a device as a change file" "$(printf 'status 5\nread fault: /dev/null')" "$(run "$dir/closed" refresh /dev/null)"
+mkdir "$dir/zeros"
+if truncate -s 1T "$dir/zeros/first.wh" 2>/dev/null; then
+    same "a store file of 2^40 zeros" "$(printf 'status 8\nnot loaded')" "$(run "$dir/zeros" report)"
+else
+    echo "checks: no file of 2^40 bytes can be made here, so none is tried"
+fi
+rm -rf "$dir/zeros"
+
+# Interrupted calls are made again.
+if strace -o /dev/null true 2>/dev/null; then
+    same "an interrupted read" "$(printf '/dev/stdin: refresh 3, sources -0 +0, stored -0 +0')" \
+        "$(strace -o /dev/null -e trace=read -e inject=read:error=EINTR:when=1..2 -P $sales/changes/monday.csv "$whc" "$dir/closed" refresh /dev/stdin <$sales/changes/monday.csv)"
+    same "an interrupted write" "$("$whc" "$dir/closed" dump Emp)" "$(strace -o /dev/null -e trace=write -e inject=write:error=EINTR:when=1..2 "$whc" "$dir/closed" dump Emp)"
+else
+    echo "checks: there is no strace here, so no call is interrupted"
+fi
 
 [ "$failed" -eq 0 ] && echo "checks: the program does what is written of it"
 exit "$failed"

@@ -1,27 +1,46 @@
 // Files of the file system.
-ghost use Rattle.std.specs.Prelude.{◌≡◌, ◌≤◌, ◌<◌, length, IfOk};
-ghost use Rattle.wh_io.specs.Causes.{Rose};
+ghost use Rattle.std.specs.Prelude.{◌≡◌, ◌≤◌, ◌<◌, length, IfOk, Ok};
+ghost use Rattle.wh_io.specs.Causes.{IsCounted, Rose};
+ghost use Rattle.wh_io.specs.Files.{is_read_fault};
 ghost use Rattle.wh_disk.specs.Reading.{ReadsAll};
 
+use crate::regular::open_regular;
+use crate::retry::read_again;
 use std::alloc::Global;
-use std::fs;
-use std::io::{ErrorKind, Read};
+use std::fs::OpenOptions;
+use std::io::{ErrorKind, Input, Read};
 use wh_base::ByteText;
 use wh_io::{FileFault, Files};
 
-/// Files under the names that the file system has for them. Only a name under which nothing stands is `Missing`;
-/// whatever else fails is `Failed`.
+// The name under which standard input is read, whatever it is. Under any other name stands a regular file.
+const STANDARD_INPUT: &str = "/dev/stdin";
+
+/// Regular files under the names that the file system has for them, and standard input under the name `/dev/stdin`.
+/// Only a name under which nothing stands is `Missing`; whatever else fails is `Failed`.
 #[derive(Drop)]
-pub struct RealFiles<R: std::rt::Files + Drop> {
+pub struct RealFiles<R: std::rt::Files + Input + Drop> {
     rt: R,
     faults: u64,
 }
 
-impl<R: std::rt::Files + Drop> RealFiles<R> {
+impl<R: std::rt::Files + Input + Drop> RealFiles<R> {
     pub fn new(rt: R) -> Self
         ensures { ⟦<RealFiles<R> as Files>⟧.faults result ≡ 0 }
     {
         RealFiles { rt, faults: 0 }
+    }
+
+    // What was read, or a failure, which is counted.
+    fn told(&mut self, read: Result<ByteText, Unread>) -> Result<ByteText, FileFault>
+        ensures text { IfOk result (λ text. read ≡ Ok text) }
+        ensures cause { IsCounted (is_read_fault result) self.old.faults self.new.faults }
+    {
+        match read {
+            Ok(text) => Ok(text),
+            Err(Unread::TooLong) => Err(FileFault::TooLong),
+            Err(Unread::NoMemory) => Err(FileFault::NoMemory),
+            Err(Unread::Failed) => Err(self.fault()),
+        }
     }
 
     // Counts a failure.
@@ -70,7 +89,7 @@ fn read_pieces<T: Read>(
     let mut left = limit;
     loop {
         let most = left.saturating_add(1).min(piece.len() as u64) as usize;
-        let Ok(count) = from.read(&mut piece[..most]) else {
+        let Ok(count) = read_again(from, &mut piece[..most]) else {
             return Err(Unread::Failed);
         };
         if count == 0 {
@@ -86,7 +105,7 @@ fn read_pieces<T: Read>(
     }
 }
 
-impl<R: std::rt::Files + Drop> Files for RealFiles<R> {
+impl<R: std::rt::Files + Input + Drop> Files for RealFiles<R> {
     ghost use Rattle.std.specs.Prelude.{None};
 
     ghost held = { λ _. None };
@@ -94,16 +113,19 @@ impl<R: std::rt::Files + Drop> Files for RealFiles<R> {
     ghost faults = { λ f. f.faults };
 
     fn read(&mut self, alloc: Global, name: &str, limit: u64) -> Result<ByteText, FileFault> {
-        let mut file = match fs::open(&self.rt, name) {
-            Ok(file) => file,
-            Err(error) if error.kind() == ErrorKind::NotFound => return Err(FileFault::Missing),
-            Err(_) => return Err(self.fault()),
-        };
-        match read_within(alloc, &mut file, limit) {
-            Ok(text) => Ok(text),
-            Err(Unread::TooLong) => Err(FileFault::TooLong),
-            Err(Unread::NoMemory) => Err(FileFault::NoMemory),
-            Err(Unread::Failed) => Err(self.fault()),
+        if name == STANDARD_INPUT {
+            let read = read_within(alloc, &mut self.rt.reader(), limit);
+            return self.told(read);
+        }
+        let mut options = OpenOptions::new();
+        options.read(true);
+        match open_regular(&self.rt, name, &options) {
+            Ok(mut file) => {
+                let read = read_within(alloc, &mut file, limit);
+                self.told(read)
+            }
+            Err(error) if error.kind() == ErrorKind::NotFound => Err(FileFault::Missing),
+            Err(_) => Err(self.fault()),
         }
     }
 }

@@ -1,4 +1,5 @@
 // A file of the file system that is opened when it is needed.
+use crate::regular::open_regular;
 use std::fs::{OpenFile, OpenOptions};
 use std::io::{self, ErrorKind, Read, Seek, SeekFrom, Write};
 
@@ -22,17 +23,13 @@ fn folder_of(path: &str) -> &str {
     }
 }
 
-// Opens a file for reading, and where it is to be written also for that, and then makes one that is missing.
+// Opens a regular file for reading, and where it is to be written also for that, and then makes one that is missing.
 fn open<R: std::rt::Files>(rt: &R, path: &str, writes: bool) -> io::Result<R::File> {
     let mut options = OpenOptions::new();
     options.read(true);
     options.write(writes);
     options.create(writes);
-    let file = options.open(rt, path)?;
-    if file.metadata()?.is_dir() {
-        return Err(io::Error::from(ErrorKind::IsADirectory));
-    }
-    Ok(file)
+    open_regular(rt, path, &options)
 }
 
 impl<R: std::rt::Files + Drop> LazyFile<R> {

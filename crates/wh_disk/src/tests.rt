@@ -1,6 +1,7 @@
 // Real files, once through each call.
 use super::*;
 use std::fs;
+use std::io::{self, ErrorKind, Write};
 use std::test::Fail;
 use wh_io::{Disk, FileFault, Files, Sink, write_all};
 
@@ -39,6 +40,46 @@ fn a_file_is_made_written_and_read(rt: HostRuntime) -> Result<(), Fail> {
     let mut folder = RealDisk::new(rt, String::from_str(alloc, ".")?);
     assert!(rt; folder.length().is_err());
     Ok(())
+}
+
+// A writer that takes two bytes at once. Its second call is interrupted, and its fourth one fails.
+#[derive(Drop)]
+struct Halting {
+    calls: u32,
+    taken: Vec<u8>,
+}
+
+impl Write for Halting {
+    fn write(&mut self, bytes: &[u8]) -> io::Result<usize> {
+        self.calls = self.calls.saturating_add(1);
+        match self.calls {
+            2 => Err(io::Error::from(ErrorKind::Interrupted)),
+            4 => Err(io::Error::from(ErrorKind::StorageFull)),
+            _ => {
+                let count = bytes.len().min(2);
+                self.taken.extend_from_slice(&bytes[..count])?;
+                Ok(count)
+            }
+        }
+    }
+
+    fn flush(&mut self) -> io::Result<()> {
+        Ok(())
+    }
+}
+
+#[test]
+fn a_writer_gets_each_byte_once(rt: HostRuntime) {
+    let mut writer = Halting {
+        calls: 0,
+        taken: Vec::new(rt.alloc()),
+    };
+    let mut sink = RealSink::new(&mut writer);
+    assert!(rt; write_all(&mut sink, b"abcd").is_ok());
+    assert!(rt; sink.write(b"ef").is_err());
+    assert!(rt; write_all(&mut sink, b"ef").is_ok());
+    let _ = sink;
+    assert_eq!(rt; writer.taken.as_slice(), b"abcdef".as_slice());
 }
 
 #[test]

@@ -1,7 +1,6 @@
 //! What a program meets outside: files that it reads, sinks that it writes to, disks. Each with a form in memory.
 #![tactic(auto)]
 
-mod adapter;
 mod disk;
 mod files;
 mod mem_disk;
@@ -15,7 +14,6 @@ mod sink;
 #[cfg(test)]
 mod tests;
 
-pub use adapter::WriterSink;
 pub use disk::Disk;
 pub use files::{FileFault, Files};
 pub use mem_disk::MemDisk;

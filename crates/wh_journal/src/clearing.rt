@@ -9,14 +9,15 @@ use crate::journal::{Journal, cut_behind};
 use wh_base::Failed;
 use wh_io::{Disk, write_settled};
 
-// The file's length, and whether its first byte is an open mark or missing.
-fn look<D: Disk>(disk: &mut D) -> Result<(u64, bool), Failed>
+/// The file's length, and whether its first byte is an open mark or missing.
+pub(crate) fn look<D: Disk>(disk: &mut D) -> Result<(u64, bool), Failed>
     ensures length { IfOk result (λ seen. ForSome (D.content disk.new) (λ file. seen.0 ≡ length file)) }
     ensures first { IfOk result (λ seen. ForSome (D.content disk.new) (λ file. seen.1 ≡ is_unshut file)) }
     ensures same { D.content disk.new ≡ D.content disk.old }
     ensures images { SameImages (D.images disk.old) (D.images disk.new) }
     ensures any_moment { LeavesOnly D.moment D.images_since disk.old disk.new (D.images disk.old) }
     ensures reads { D.reads disk.new ≤ D.reads disk.old + 1 }
+    ensures within { IfSome (D.content disk.old) (λ file. D.reads disk.new ≤ D.reads disk.old + length file) }
     ensures cause { IsCounted (is_err result) (D.faults disk.old) (D.faults disk.new) }
 {
     let length = disk.length()?;

@@ -23,14 +23,14 @@ use std::alloc::{AllocError, Global};
 use std::env;
 use std::process::ExitCode;
 use wh_command::Status;
-use wh_disk::{RealDisk, RealFiles};
-use wh_io::WriterSink;
+use wh_disk::{RealDisk, RealFiles, RealSink, hold_closed_streams};
 use wh_steps::{NoLedger, Steps};
 
 fn main(rt: HostRuntime) -> ExitCode {
-    let status = match start(rt) {
-        Ok(status) => status,
-        Err(AllocError) => Status::NoMemory,
+    let status = match hold_closed_streams(&rt) {
+        // They are held until the files are closed again.
+        Ok(_held) => start(rt).unwrap_or(Status::NoMemory),
+        Err(_) => Status::ReadFault,
     };
     ExitCode::from(status.number())
 }
@@ -47,8 +47,8 @@ fn start(rt: HostRuntime) -> Result<Status, AllocError> {
     let mut first = RealDisk::new(rt, format!(in alloc; "{folder}/first.wh")?);
     let mut second = RealDisk::new(rt, format!(in alloc; "{folder}/second.wh")?);
     let mut files = RealFiles::new(rt);
-    let mut out = WriterSink::new(rt.stdout());
-    let mut err = WriterSink::new(rt.stderr());
+    let mut out = RealSink::new(rt.stdout());
+    let mut err = RealSink::new(rt.stderr());
     let mut steps = Steps::new(&rt, NoLedger);
     Ok(run(
         alloc,
