@@ -1,1 +1,6 @@
+pub mod Hashes
+pub mod Indexes
+pub mod Kept
+pub mod LiveRows
 pub mod TableLemmas
+pub mod Walks

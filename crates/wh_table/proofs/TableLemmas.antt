@@ -1,5 +1,7 @@
 -- Distinct rows before and after a change.
-use Rattle.std.proofs.Common.{◌≡◌, Bool, true, false, ℕ, ◌&&◌, ◌||◌, List, [], ◌∷◌, ◌++◌, None, Some, slice_get, refl, sym, ap, ◌∙◌, true≢false}
+use Rattle.std.proofs.Common.{◌≡◌, Bool, true, false, ℕ, ◌&&◌, ◌||◌, List, [], ◌∷◌, ◌++◌, reverse, not, cond, refl, sym, ap, subst, ◌∙◌, true≢false}
+use Rattle.std.proofs.lemmas.List.{reverse-append}
+use Rattle.wh_table.proofs.LiveRows.{apart, other_way}
 use Rattle.std.specs.List.{list_any, IsDistinct, AllByRecursion}
 use Rattle.std.proofs.lemmas.Map.Keys.{IsDistinct-head, IsDistinct-tail, IsDistinct-cons}
 use Rattle.wh_base.specs.declared.value.Delta.{Delta}
@@ -8,7 +10,7 @@ use Rattle.wh_base.specs.RowSet.{has, AreDistinct, IsSetOf}
 use Rattle.wh_base.specs.Tables.{without}
 use Rattle.wh_base.specs.Value.{row_eq}
 use Rattle.wh_base.specs.ValueLaws.{row_eq-Decides}
-use Rattle.wh_base.proofs.RowSets.{has_itself, has-filter, IsDistinct-filter, IsSetOf-filter, IsSetOf-itself}
+use Rattle.wh_base.proofs.RowSets.{has_itself, has-append, has-filter, IsDistinct-filter}
 use Rattle.wh_table.specs.Table.{matching, CanApply}
 use Rattle.wh_base.specs.Columns.{picked}
 
@@ -58,19 +60,56 @@ AreDistinct-changed rows delta h can =
     AreDistinct-append (without rows delta.deleted) delta.inserted (IsDistinct-filter _ rows h) can.inserted_once
     (λ row there. lacks rows delta.inserted row can.absent (left_and (has rows row) _ (sym (has-filter _ rows row) ∙ there)))
 
--- the matching rows of distinct rows, as a set
-pub IsSetOf-matching : (places : List ℕ) (values : List Value) (kept rows : List (List Value)) → kept ≡ matching places values rows → AreDistinct rows → IsSetOf kept (matching places values rows)
-IsSetOf-matching places values kept rows is h =
-    let test = λ (row : List Value). row_eq (picked places row) values in
-    IsSetOf-filter test test (λ row. refl) kept rows rows is (IsSetOf-itself rows rows refl h)
+-- the matching rows of distinct rows are distinct
+pub AreDistinct-matching : (places : List ℕ) (values : List Value) (rows : List (List Value)) → AreDistinct rows → AreDistinct (matching places values rows)
+AreDistinct-matching places values rows h = IsDistinct-filter (λ row. row_eq (picked places row) values) rows h
 
--- the first of some rows is among them, and where there is none they are empty
-pub has_first : (rows : List (List Value)) (row : List Value) → slice_get rows 0 ≡ Some row → has rows row ≡ true
-has_first [] row h = absurd (cc)
-has_first (x ∷ rows) row h =
-    let same : x ≡ row = cc in
-    ap (λ r. row_eq row r || has rows row) same ∙ ap (λ b. b || has rows row) (has_itself row)
+-- ---- rows turned round
 
-pub no_first : (rows : List (List Value)) → slice_get rows 0 ≡ None → rows ≡ []
-no_first [] h = refl
-no_first (x ∷ rows) h = absurd (cc)
+or_swap : (a b : Bool) → (a || (b || false)) ≡ (b || a)
+or_swap true true = refl
+or_swap true false = refl
+or_swap false true = refl
+or_swap false false = refl
+
+has-reverse : (rows : List (List Value)) (row : List Value) → has (reverse rows) row ≡ has rows row
+has-reverse [] row = refl
+has-reverse (x ∷ rows) row =
+    ap (λ rs. has rs row) (reverse-append (x ∷ []) rows)
+    ∙ has-append (reverse rows) (x ∷ []) row
+    ∙ ap (λ b. b || (row_eq row x || false)) (has-reverse rows row)
+    ∙ or_swap (has rows row) (row_eq row x)
+
+AreDistinct-reverse : (rows : List (List Value)) → AreDistinct rows → AreDistinct (reverse rows)
+AreDistinct-reverse [] h = h
+AreDistinct-reverse (x ∷ rows) h =
+    subst AreDistinct (sym (reverse-append (x ∷ []) rows))
+    (AreDistinct-append (reverse rows) (x ∷ []) (AreDistinct-reverse rows (IsDistinct-tail row_eq x rows h)) (IsDistinct-cons row_eq x [] tt AreDistinct-nil)
+    (λ row there. ap (λ b. b || false) (other_way x row (apart x row rows (IsDistinct-head row_eq x rows h) (sym (has-reverse rows row) ∙ there)))))
+
+-- distinct rows turned round are the same set
+pub IsSetOf-reverse : (kept rows : List (List Value)) → kept ≡ reverse rows → AreDistinct rows → IsSetOf kept rows
+IsSetOf-reverse kept rows e h = record {
+  distinct = subst AreDistinct (sym e) (AreDistinct-reverse rows h);
+  same = λ row. ap (λ rs. has rs row) e ∙ has-reverse rows row;
+}
+
+-- rows without some and then without one more
+pub without-more : (rows gone : List (List Value)) (row : List Value) → without (without rows gone) (row ∷ []) ≡ without rows (gone ++ row ∷ [])
+without-more [] gone row = refl
+without-more (x ∷ rows) gone row = by (has gone x) (has (row ∷ []) x) refl (has-append gone (row ∷ []) x) (without-more rows gone row)
+  where
+    by : (a b : Bool) → has (row ∷ []) x ≡ b → has (gone ++ row ∷ []) x ≡ (a || has (row ∷ []) x) → without (without rows gone) (row ∷ []) ≡ without rows (gone ++ row ∷ []) → without (cond (not a) (x ∷ without rows gone) (without rows gone)) (row ∷ []) ≡ cond (not (has (gone ++ row ∷ []) x)) (x ∷ without rows (gone ++ row ∷ [])) (without rows (gone ++ row ∷ []))
+    by true b e both rest = rest ∙ sym (ap (λ c. cond (not c) (x ∷ without rows (gone ++ row ∷ [])) (without rows (gone ++ row ∷ []))) both)
+    by false true e both rest =
+        ap (λ c. cond (not c) (x ∷ without (without rows gone) (row ∷ [])) (without (without rows gone) (row ∷ []))) e
+        ∙ rest
+        ∙ sym (ap (λ c. cond (not c) (x ∷ without rows (gone ++ row ∷ [])) (without rows (gone ++ row ∷ []))) (both ∙ e))
+    by false false e both rest =
+        ap (λ c. cond (not c) (x ∷ without (without rows gone) (row ∷ [])) (without (without rows gone) (row ∷ []))) e
+        ∙ ap (λ rs. x ∷ rs) rest
+        ∙ sym (ap (λ c. cond (not c) (x ∷ without rows (gone ++ row ∷ [])) (without rows (gone ++ row ∷ []))) (both ∙ e))
+
+pub without-none : (rows : List (List Value)) → without rows [] ≡ rows
+without-none [] = refl
+without-none (x ∷ rows) = ap (λ rs. x ∷ rs) (without-none rows)

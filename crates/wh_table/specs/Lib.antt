@@ -1,3 +1,5 @@
+pub mod Hash
+pub mod Slots
 pub mod Table
 pub use Rattle.wh_base.specs.Columns
 pub use Rattle.wh_base.specs.RowSet

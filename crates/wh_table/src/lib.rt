@@ -2,9 +2,14 @@
 //! without memory.
 #![tactic(auto)]
 
+mod hash;
+mod index;
 mod matches;
 mod prepared;
+mod slot;
+mod slots;
 mod table;
+mod walk;
 
 pub use prepared::Prepared;
 pub use table::{Table, Tables};

@@ -1,34 +1,31 @@
-ghost use Rattle.std.specs.Prelude.{◌≡◌, ◌+◌, ◌≤◌, [], ◌++◌, length, vec_len, vec_capacity, All, IfOk, OnOk, OnErr, MatchOption, IsTrue};
+ghost use Rattle.std.specs.Prelude.{◌≡◌, ◌+◌, ◌≤◌, [], ◌++◌, length, vec_len, All, IfOk, OnOk, OnErr, MatchOption, IsTrue};
 ghost use Rattle.wh_base.specs.RowSet.{has, AreDistinct, SameRows, IsSetOf};
 ghost use Rattle.wh_base.specs.Tables.{without};
 ghost use Rattle.wh_table.specs.Table.{IsColumnSet, IsIndexed, matching, CanApply};
 
-use crate::matches;
 use crate::prepared::Prepared;
+use crate::slots::Slots;
 use std::alloc::Global;
 use std::marker::Model;
-use wh_base::{ColumnSets, Delta, Duplicate, NoMemory, Places, Row, Rows, Sequence};
+use wh_base::{ColumnSets, Delta, NoMemory, Places, Row, Rows, Sequence};
 use wh_steps::{Ledger, Steps};
 
 /// Distinct rows of one width.
 #[derive(Debug, Drop)]
 pub struct Table {
-    rows: Vec<Row>,
+    slots: Slots,
     width: u32,
-    indexes: ColumnSets,
-    spare: usize,
 }
 
 impl Model for Table {
-    ghost use Rattle.std.specs.Prelude.{◌+◌, ◌≤◌, vec_len, vec_capacity};
     ghost use Rattle.wh_base.specs.RowSet.{AreDistinct};
     ghost use Rattle.wh_table.specs.Table.{IndexedRows};
 
     ghost Value = { IndexedRows };
 
-    ghost view = { λ t. record { rows = t.rows.items; width = t.width; indexes = t.indexes; spare = t.spare } };
+    ghost view = { λ t. record { rows = t.slots.rows; width = t.width; indexes = t.slots.indexes; spare = t.slots.spare } };
 
-    ghost invariant = { λ t. AreDistinct t.rows.items × (vec_len t.rows + t.spare ≤ vec_capacity t.rows) };
+    ghost invariant = { λ t. AreDistinct t.slots.rows };
 }
 
 pub type Tables = Sequence<Table>;
@@ -40,10 +37,8 @@ impl Table {
         ensures { IfOk result (λ table. table ≡ record { rows = []; width = width; indexes = indexes; spare = 0 }) }
     {
         Ok(Table {
-            rows: Vec::new(alloc),
+            slots: Slots::new(alloc, indexes)?,
             width,
-            indexes,
-            spare: 0,
         })
     }
 
@@ -54,14 +49,14 @@ impl Table {
         // They are distinct in every table.
         ensures distinct { AreDistinct self.now.rows }
     {
-        self.rows.len()
+        self.slots.len()
     }
 
     /// Whether a row is there.
     pub fn contains(&self, r: &Row) -> bool
         ensures { result ≡ has self.now.rows r.now }
     {
-        is_among(self.rows.as_slice(), r)
+        self.slots.contains(r)
     }
 
     /// All rows, which is one scan.
@@ -71,7 +66,7 @@ impl Table {
         ensures probes { steps.new.probes ≡ steps.old.probes }
     {
         steps.scan();
-        copies(alloc, self.rows.as_slice())
+        self.slots.copies(alloc)
     }
 
     /// The rows with these values at the columns of an indexed set: one probe, and one more for each answer.
@@ -90,12 +85,9 @@ impl Table {
         ensures scans { steps.new.scans ≡ steps.old.scans }
     {
         steps.probe(1);
-        let rows = matches::copies_where(
-            alloc,
-            self.rows.as_slice(),
-            cols.as_slice(),
-            vals.as_slice(),
-        )?;
+        let rows = self
+            .slots
+            .copies_where(alloc, cols.as_slice(), vals.as_slice())?;
         steps.probe(rows.len() as u64);
         Ok(rows)
     }
@@ -117,14 +109,12 @@ impl Table {
         ensures scans { steps.new.scans ≡ steps.old.scans }
     {
         steps.probe(1);
-        match matches::first_where(self.rows.as_slice(), cols.as_slice(), vals.as_slice()) {
-            Some(row) => Ok(Some(row.copy(alloc)?)),
-            None => Ok(None),
-        }
+        self.slots
+            .copy_where(alloc, cols.as_slice(), vals.as_slice())
     }
 
     /// Takes all memory that a change needs.
-    pub fn prepare(&mut self, _alloc: Global, d: Delta) -> Result<Prepared, NoMemory>
+    pub fn prepare(&mut self, alloc: Global, d: Delta) -> Result<Prepared, NoMemory>
         ensures prepared { IfOk result (λ p. p ≡ d) }
         ensures room { OnOk result (length d.inserted ≤ self.new.spare) }
         ensures rows { self.new.rows ≡ self.old.rows }
@@ -132,9 +122,7 @@ impl Table {
         ensures indexes { self.new.indexes ≡ self.old.indexes }
         ensures spare { self.old.spare ≤ self.new.spare }
     {
-        let count = d.inserted.len();
-        self.rows.reserve(count)?;
-        self.spare = self.spare.max(count);
+        self.slots.reserve(alloc, d.inserted.len())?;
         Ok(Prepared::new(d))
     }
 
@@ -148,35 +136,29 @@ impl Table {
         ensures indexes { self.new.indexes ≡ self.old.indexes }
     {
         let Delta { deleted, inserted } = p.into_delta();
-        self.spare -= inserted.len();
-        exchange(&mut self.rows, deleted.as_slice(), inserted.into_vec());
+        delete_all(&mut self.slots, deleted.as_slice());
+        insert_all(&mut self.slots, inserted.into_vec());
     }
 }
 
-fn is_among(rows: &[Row], row: &Row) -> bool
-    ensures { result ≡ has rows.now row.now }
+fn delete_all(slots: &mut Slots, deleted: &[Row])
+    requires { AreDistinct slots.old.rows }
+    ensures rows { slots.new.rows ≡ without slots.old.rows deleted.now }
+    ensures spare { slots.new.spare ≡ slots.old.spare }
+    ensures indexes { slots.new.indexes ≡ slots.old.indexes }
 {
-    rows.iter().any(|other| row == other)
-}
-
-fn copies(alloc: Global, rows: &[Row]) -> Result<Rows, NoMemory>
-    ensures { IfOk result (λ twin. twin ≡ rows.now) }
-{
-    let mut twin = Rows::new(alloc);
-    for row in rows {
-        twin.push(row.copy(alloc)?)?;
+    for row in deleted {
+        slots.delete(row);
     }
-    Ok(twin)
 }
 
-/// Takes the deleted rows away and adds the inserted ones, for which there is room.
-fn exchange(rows: &mut Vec<Row>, deleted: &[Row], inserted: Vec<Row>)
-    requires { vec_len rows.old + vec_len inserted ≤ vec_capacity rows.old }
-    ensures rows { rows.new.items ≡ without rows.old.items deleted.now ++ inserted.items }
-    ensures count { vec_len rows.new ≤ vec_len rows.old + vec_len inserted }
-    ensures capacity { vec_capacity rows.old ≤ vec_capacity rows.new }
+fn insert_all(slots: &mut Slots, inserted: Vec<Row>)
+    requires { vec_len inserted ≤ slots.old.spare }
+    ensures rows { slots.new.rows ≡ slots.old.rows ++ inserted.items }
+    ensures spare { slots.new.spare + vec_len inserted ≡ slots.old.spare }
+    ensures indexes { slots.new.indexes ≡ slots.old.indexes }
 {
-    let mut inserted = inserted;
-    rows.retain(|row| !is_among(deleted, row));
-    rows.append(&mut inserted).unwrap();
+    for row in inserted {
+        slots.insert(row);
+    }
 }

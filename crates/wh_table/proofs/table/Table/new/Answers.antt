@@ -1,7 +1,7 @@
-use Rattle.std.proofs.Common.{rules, sym, subst}
+use Rattle.std.proofs.Common.{ap, sym, subst}
 use Rattle.wh_base.specs.RowSet.{AreDistinct}
 use Rattle.wh_table.proofs.TableLemmas.{AreDistinct-nil}
 use Rattle.wh_table.proofs.table.Table.new.Goals as goal
 
 pub invariant_of-result : goal.invariant_of-result
-invariant_of-result c = (subst AreDistinct (sym c.new.ensures.items) AreDistinct-nil, search rules)
+invariant_of-result c = subst AreDistinct (sym (ap (λ v. v.rows) c.in_ok-new.ensures)) AreDistinct-nil
