@@ -84,8 +84,8 @@ fn table_of(alloc: Global, width: usize, indexes: ColumnSets, rows: Rows) -> Res
     Ok(table)
 }
 
-// The stored tables with these rows.
-fn tables_of(
+/// The stored tables with these rows.
+pub(crate) fn tables_of(
     alloc: Global,
     plan: &Plan,
     stored: &[Head],
