@@ -100,11 +100,11 @@ changed_length held meant d same can =
 
 -- ---- the rules
 
-list_all_same : (p q : Row → Bool) → ((r : Row) → p r ≡ q r) → (rows : List Row) → list_all p rows ≡ list_all q rows
+pub list_all_same : (p q : Row → Bool) → ((r : Row) → p r ≡ q r) → (rows : List Row) → list_all p rows ≡ list_all q rows
 list_all_same p q same [] = refl
 list_all_same p q same (x ∷ rows) = ap (λ b. b && list_all p rows) (same x) ∙ ap (λ b. q x && b) (list_all_same p q same rows)
 
-list_any_same : (p q : Row → Bool) → ((r : Row) → p r ≡ q r) → (rows : List Row) → list_any p rows ≡ list_any q rows
+pub list_any_same : (p q : Row → Bool) → ((r : Row) → p r ≡ q r) → (rows : List Row) → list_any p rows ≡ list_any q rows
 list_any_same p q same [] = refl
 list_any_same p q same (x ∷ rows) = ap (λ b. b || list_any p rows) (same x) ∙ ap (λ b. q x || b) (list_any_same p q same rows)
 

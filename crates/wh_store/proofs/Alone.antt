@@ -1,9 +1,9 @@
 -- A file that is cleared, and then given one frame, at each moment.
-use Rattle.std.proofs.Common.{◌≡◌, ◌⊎◌, inl, inr, ⊎_elim, ℕ, Bool, true, false, not, cond, List, [], ◌∷◌, ◌++◌, length, Option, Some, None, IfSome, Result, Ok, Err, refl, sym, ap, subst, ◌∙◌, arith}
+use Rattle.std.proofs.Common.{◌≡◌, inl, inr, ℕ, Bool, true, false, cond, List, [], ◌∷◌, Option, Some, None, IfSome, Ok, Err, refl, sym, ap, subst, ◌∙◌, arith}
 use Rattle.std.specs.Option.{option_map}
 use Rattle.wh_io.specs.Crash.{IsSettled, LeavesOnly}
 use Rattle.wh_io.proofs.Moments.{leaves_map, leaves_then}
-use Rattle.wh_journal.specs.File.{is_empty, frames_of, walk, judged, Walk, span}
+use Rattle.wh_journal.specs.File.{is_empty, frames_of, walk, judged, span}
 use Rattle.wh_journal.specs.Journal.{IsKeptOrEmpty, IsBeforeOrAfter, cleared, with_frame}
 use Rattle.wh_journal.proofs.Walks.{some_bodies}
 use Rattle.wh_schema.specs.declared.spec.Spec.{Spec}

@@ -1,30 +1,27 @@
 -- Changes of stored tables.
-use Rattle.std.proofs.Common.{◌≡◌, inl, inr, ℕ, zero, suc, ◌+◌, ◌<◌, Bool, true, false, not, ◌&&◌, cond, List, [], ◌∷◌, ◌++◌, length, map, get_or, is_some, if◌then◌else◌, Option, None, Some, Contains, refl, sym, ap, subst, ◌∙◌, arith, nat_eq, eq-eqb, true≢false, zero-add, below_more, rules}
+use Rattle.std.proofs.Common.{◌≡◌, inl, inr, ℕ, ◌<◌, Bool, true, false, not, ◌&&◌, cond, List, [], ◌∷◌, ◌++◌, length, get_or, is_some, Contains, refl, sym, ap, subst, ◌∙◌, arith, nat_eq, eq-eqb, true≢false, zero-add, rules}
 use Rattle.std.specs.Prelude.{◌↔◌, IsTrue, filter}
 use Rattle.std.specs.Cmp.Lexicographic.{pointwise}
-use Rattle.std.specs.Cmp.{both_ways}
-use Rattle.std.specs.List.{list_all, list_any, AllByRecursion}
+use Rattle.std.specs.List.{list_all, AllByRecursion}
 use Rattle.std.proofs.lemmas.Bool.{eqb-true}
-use Rattle.std.proofs.lemmas.List.{append-nil, get_or_append_left, get_or_at, length_push}
 use Rattle.std.proofs.lemmas.List.Elements.{Contains-append_cases, Contains-append_right}
 use Rattle.std.proofs.lemmas.List.Folds.{list_all_at}
 use Rattle.std.proofs.lemmas.List.FromFn.{fill_by_all, get_or-map-range_with_len, length-map-range_with_len}
-use Rattle.wh_base.specs.declared.head.Head.{Head}
 use Rattle.wh_base.specs.declared.value.Attr.{Attr}
 use Rattle.wh_base.specs.declared.value.Delta.{Delta}
 use Rattle.wh_base.specs.declared.value.Value.{Value}
 use Rattle.wh_base.specs.Heads.{attrs_at}
-use Rattle.wh_base.specs.RowSet.{has, in_order, IsAscending}
+use Rattle.wh_base.specs.RowSet.{has, IsAscending}
 use Rattle.wh_base.specs.Tables.{without}
 use Rattle.wh_base.specs.Value.{row_kinds, kinds}
-use Rattle.wh_base.proofs.InOrder.{in_order-unique, IsAscending-in_order, Contains-in_order, Contains-from_in_order}
-use Rattle.wh_base.proofs.OrderedLists.{Contains-nil, Contains-here, Contains-there, Contains-cons_cases}
+use Rattle.wh_base.proofs.InOrder.{IsAscending-in_order, Contains-in_order, Contains-from_in_order}
+use Rattle.wh_base.proofs.OrderedLists.{Contains-here, Contains-there, Contains-cons_cases}
 use Rattle.wh_expr.specs.Typing.{kind_eq}
 use Rattle.wh_schema.specs.declared.spec.Spec.{Spec}
 use Rattle.wh_schema.specs.Warehouse.{numbers}
 use Rattle.wh_store.specs.Image.{stored_count, stored_attrs, fit_attrs, fits_stored, fit_stored, first_over, are_stored_tables, no_delta, applies, changed_table, changed_tables, apply_to, are_stored_deltas}
 use Rattle.wh_store.specs.Opening.{stored_heads, takes, all_take}
-use Rattle.wh_store.proofs.StoredLemmas.{and_true, and_both, and_fails, all_below, all_at, all_mapped, attrs_stored}
+use Rattle.wh_store.proofs.StoredLemmas.{and_true, and_both, all_below, all_at, all_mapped, attrs_stored}
 
 abbrev Row : Type 0
 Row = List Value
@@ -35,14 +32,9 @@ holds_from false P h e = absurd (true≢false (sym e))
 
 -- ---- one table
 
-keep_all : (rows : List Row) → without rows [] ≡ rows
+pub keep_all : (rows : List Row) → without rows [] ≡ rows
 keep_all [] = refl
 keep_all (row ∷ rows) = ap (λ (l : List Row). row ∷ l) (keep_all rows)
-
-pub untouched : (rows : List (List Value)) (d : Delta) → IsAscending rows → d.deleted ≡ [] → d.inserted ≡ [] → rows ≡ changed_table rows d
-untouched rows d up gone come =
-    in_order-unique rows rows up (λ q. (λ h. h, λ h. h))
-    ∙ ap in_order (sym (keep_all rows) ∙ sym (append-nil (without rows [])) ∙ (λ i. without rows (sym gone i) ++ sym come i))
 
 contains_kept : (p : Row → Bool) (rows : List Row) (x : Row) → Contains (filter p rows) x → Contains rows x
 contains_kept p [] x h = h
@@ -85,14 +77,6 @@ module _ (attrs : List Attr) (rows : List Row) (d : Delta) where
       passes_at suits (changed_table rows d) x all (Contains-in_order (without rows d.deleted ++ d.inserted) x (Contains-append_right (without rows d.deleted) d.inserted x h)))
 
 -- ---- all tables
-
-pub changed_more : (tables : List (List (List Value))) (deltas : List Delta) (changed after : List (List (List Value))) (rows : List (List Value)) (n : ℕ) → length changed ≡ n → after ≡ changed ++ rows ∷ []
-    → ((k : ℕ) → k < n → get_or changed k [] ≡ changed_table (get_or tables k []) (get_or deltas k no_delta)) → rows ≡ changed_table (get_or tables n []) (get_or deltas n no_delta)
-    → (k : ℕ) → k < n + 1 → get_or after k [] ≡ changed_table (get_or tables k []) (get_or deltas k no_delta)
-changed_more tables deltas changed after rows n count is so_far here =
-    below_more (λ k. get_or after k [] ≡ changed_table (get_or tables k []) (get_or deltas k no_delta)) n
-    (λ k below. ap (λ (l : List (List Row)). get_or l k []) is ∙ get_or_append_left changed (rows ∷ []) [] k (omega arith) ∙ so_far k below)
-    (ap (λ (l : List (List Row)). get_or l n []) is ∙ get_or_at changed rows [] [] n count ∙ here)
 
 pub changed_all : (tables : List (List (List Value))) (deltas : List Delta) (changed : List (List (List Value))) → length changed ≡ length tables
     → ((k : ℕ) → k < length tables → get_or changed k [] ≡ changed_table (get_or tables k []) (get_or deltas k no_delta)) → changed ≡ changed_tables tables deltas

@@ -6,10 +6,10 @@ mod CreateLemmas
 pub mod FirstByte
 pub mod FrameLemmas
 mod FrameOrder
+mod HeldTables
 pub mod HeldValues
 pub mod Loaded
 pub mod OpenLemmas
-pub mod Searches
 pub mod SoundFiles
 pub mod SpelledTables
 pub mod StoredLemmas

@@ -1,5 +1,5 @@
 -- A file of one snapshot is a loaded store.
-use Rattle.std.proofs.Common.{◌≡◌, ◌⊎◌, inl, inr, ℕ, zero, suc, ◌+◌, ◌<◌, ◌≤◌, ◌^◌, Bool, true, false, not, ◌&&◌, ◌||◌, if◌then◌else◌, List, [], ◌∷◌, ◌++◌, length, map, get_or, Option, None, Some, is_some, Result, Ok, Err, refl, sym, ap, subst, ◌∙◌, arith, nat_eq, nat_lt, nat_le, true≢false, cond}
+use Rattle.std.proofs.Common.{◌≡◌, ℕ, zero, suc, ◌+◌, ◌<◌, ◌≤◌, ◌^◌, Bool, true, false, not, ◌&&◌, if◌then◌else◌, List, [], ◌∷◌, length, get_or, None, Some, is_some, Result, Ok, Err, refl, sym, ap, subst, ◌∙◌, arith, nat_eq, nat_lt, true≢false, cond}
 use Rattle.std.specs.Cmp.Lexicographic.{pointwise}
 use Rattle.std.specs.List.{list_all, AllByRecursion, position, position_or_len}
 use Rattle.std.specs.Str.{bytes_eq}
@@ -9,12 +9,10 @@ use Rattle.std.proofs.lemmas.Slice.Eq.{bytes_eq-Decides}
 use Rattle.wh_base.specs.declared.value.Attr.{Attr}
 use Rattle.wh_base.specs.declared.value.Kind.{Kind}
 use Rattle.wh_base.specs.declared.value.Kind.TheVariants.{Int, Text}
-use Rattle.wh_base.specs.declared.value.Value.{Value}
 use Rattle.wh_base.specs.RowSet.{IsAscending}
 use Rattle.wh_base.specs.Value.{row_kinds, kinds}
-use Rattle.wh_codec.specs.declared.frame.Frame.{Frame}
 use Rattle.wh_codec.specs.declared.frame.Frame.TheVariants.{Snapshot}
-use Rattle.wh_codec.specs.Body.{AreAlike, IsSpelledRow, IsSpelledTable, IsSpelledSnapshot, IsBodyOf, frame_bytes}
+use Rattle.wh_codec.specs.Body.{AreAlike, IsSpelledRow, IsSpelledTable, IsSpelledSnapshot}
 use Rattle.wh_codec.specs.Reading.{frame_of}
 use Rattle.wh_codec.proofs.Frames.{body_again}
 use Rattle.wh_expr.specs.Typing.{kind_eq}
@@ -27,12 +25,11 @@ use Rattle.wh_schema.specs.Rules.{IsWithinLimits, checked, empty_spec}
 use Rattle.wh_schema.specs.Warehouse.{Row, numbers}
 use Rattle.wh_grammar.specs.declared.fault.TextFault.{TextFault}
 use Rattle.wh_laws.proofs.Accepting.{accepted, empty_within}
-use Rattle.wh_spec_text.specs.declared.fault.SpecTextFault.{SpecTextFault}
 use Rattle.wh_spec_text.specs.Printed.{spec_text}
 use Rattle.wh_spec_text.specs.SpecTexts.{spec_of_text, spec_of_raw, ruled}
 use Rattle.wh_spec_text.specs.Texts.{raw_of_text}
 use Rattle.wh_spec_text.specs.Textual.{IsTextualSpec}
-use Rattle.wh_store.specs.Image.{Image, Active, stored_count, stored_attrs, row_limit, fit_attrs, fits_stored, fit_stored, first_over, are_stored_tables, end_behind, accepted_from, printed_spec, snapshot_over, after_first, replayed, replayed_on, some_image, image_of_bodies, image_of_frames, file_image, both, holding}
+use Rattle.wh_store.specs.Image.{stored_count, stored_attrs, row_limit, fit_attrs, fits_stored, fit_stored, first_over, end_behind, accepted_from, printed_spec, snapshot_over, after_first, replayed, replayed_on, some_image, image_of_bodies, image_of_frames, file_image, both, holding}
 use Rattle.wh_store.specs.Store.{loaded_body, loaded_image, loaded}
 use Rattle.wh_store.proofs.StoredLemmas.{and_true, all_at, all_from, item_of}
 

@@ -1,21 +1,15 @@
 -- What the frames of a file come to, step by step.
-use Rattle.std.proofs.Common.{◌≡◌, ◌⊎◌, inl, inr, ℕ, suc, ◌+◌, ◌<◌, ◌^◌, Bool, true, false, not, ◌&&◌, if◌then◌else◌, List, [], ◌∷◌, ◌++◌, length, map, get_or, drop, Option, Some, None, is_some, IfSome, IfOk, IfErr, Result, Ok, Err, refl, sym, ap, subst, ◌∙◌, arith, true≢false}
+use Rattle.std.proofs.Common.{◌≡◌, ℕ, true, false, if◌then◌else◌, List, [], ◌∷◌, length, Option, Some, None, IfSome, IfOk, Result, Ok, Err, sym, ap, subst, ◌∙◌}
 use Rattle.std.specs.List.{AllByRecursion}
-use Rattle.std.specs.Option.{ForSome, option_map}
-use Rattle.std.proofs.lemmas.List.{drop_more, drop_all}
-use Rattle.wh_base.specs.RoomyText.{RoomyText}
+use Rattle.std.specs.Option.{ForSome}
 use Rattle.wh_base.specs.declared.value.Value.{Value}
 use Rattle.wh_base.specs.RowSet.{IsAscending}
-use Rattle.wh_codec.specs.declared.frame.Frame.{Frame}
-use Rattle.wh_codec.specs.declared.frame.Frame.TheVariants.{Snapshot, Change}
+use Rattle.wh_codec.specs.declared.frame.Frame.TheVariants.{Snapshot}
 use Rattle.wh_codec.specs.Body.{IsSpelledTable}
 use Rattle.wh_codec.specs.Reading.{frame_of}
-use Rattle.wh_journal.specs.declared.found.Found.{Found}
-use Rattle.wh_journal.specs.declared.found.Found.TheVariants.{Empty, Frames}
-use Rattle.wh_journal.specs.File.{is_empty, frames_of, span, walk, judged}
-use Rattle.wh_journal.specs.Journal.{bodies_of, IsFound, IsJournalOf}
+use Rattle.wh_journal.specs.File.{is_empty, walk, judged}
+use Rattle.wh_journal.specs.Journal.{IsJournalOf}
 use Rattle.wh_schema.specs.declared.spec.Spec.{Spec}
-use Rattle.wh_schema.specs.Warehouse.{Row}
 use Rattle.wh_store.specs.declared.fault.StoreFault.{StoreFault}
 use Rattle.wh_store.specs.declared.fault.StoreFault.TheVariants as fault
 use Rattle.wh_store.specs.declared.replay.Replay.{Replay}
@@ -26,10 +20,10 @@ use Rattle.wh_store.specs.declared.warehouse.Warehouse.{Warehouse}
 use Rattle.wh_store.specs.declared.warehouse.Which.{Which}
 use Rattle.wh_store.specs.declared.warehouse.Which.TheVariants.{First, Second}
 use Rattle.wh_store.specs.Commit.{active_of}
-use Rattle.wh_store.specs.Image.{Image, Active, Holding, end_behind, are_stored_tables, snapshot_over, printed_spec, after_first, after_frame, replayed, replayed_on, some_image, image_of_bodies, image_of_frames, file_image, both, holding}
-use Rattle.wh_store.specs.Opening.{image_of, IsSound, found_of, HasLength, IsStateOf, file_state, IsChosen, IsNoRefusal}
+use Rattle.wh_store.specs.Image.{Holding, end_behind, are_stored_tables, snapshot_over, printed_spec, after_first, after_frame, replayed, replayed_on, some_image, image_of_bodies, image_of_frames, file_image, both, holding}
+use Rattle.wh_store.specs.Opening.{image_of, found_of, HasLength, IsStateOf, file_state, IsChosen}
 use Rattle.wh_store.specs.Store.{IsOpen}
-use Rattle.wh_store.specs.Warehouse.{IsWarehouseOf, IsPlaceOf, file_in}
+use Rattle.wh_store.specs.Warehouse.{IsWarehouseOf, file_in}
 use Rattle.wh_store.proofs.SoundFiles.{file_sound}
 
 -- ---- a snapshot
@@ -109,20 +103,6 @@ opened_is a b first second which r w p in_a in_b h held place = record {
   };
 }
 
-pub outcome_is : (a b : List ℕ) (first second : FileState) (which : Which) (r : Replay) (result : Result (Warehouse × Place) StoreFault) → IsStateOf a first → IsStateOf b second
-    → IsChosen first second (both (found_of first) (found_of second)) (Ok (which, r)) → IfOk result (λ (o : Warehouse × Place). IsWarehouseOf (image_of r) o.0)
-    → IfOk result (λ (o : Warehouse × Place). o.1 ≡ record { which = which; generation = r.generation; journal = r.journal; live = true }) → IfErr result IsNoRefusal → IsOpen a b result
-outcome_is a b first second which r (Ok (w, p)) in_a in_b h held place none = opened_is a b first second which r w p in_a in_b h held place
-outcome_is a b first second which r (Err fault.DiskFault) in_a in_b h held place none = tt
-outcome_is a b first second which r (Err fault.NoMemory) in_a in_b h held place none = tt
-outcome_is a b first second which r (Err fault.AlreadyLoaded) in_a in_b h held place none = absurd none
-outcome_is a b first second which r (Err fault.NotLoaded) in_a in_b h held place none = absurd none
-outcome_is a b first second which r (Err (fault.Damaged w at)) in_a in_b h held place none = absurd none
-outcome_is a b first second which r (Err (fault.RowLimit table)) in_a in_b h held place none = absurd none
-outcome_is a b first second which r (Err fault.SequenceLimit) in_a in_b h held place none = absurd none
-outcome_is a b first second which r (Err fault.GenerationLimit) in_a in_b h held place none = absurd none
-outcome_is a b first second which r (Err fault.FileLimit) in_a in_b h held place none = absurd none
-
 -- two contents that are told
 pub both_told : (x y z : Option (List ℕ)) (P Q : List ℕ → Type 0) (R : List ℕ → List ℕ → Type 0) → z ≡ y → ((a b : List ℕ) → P a → Q b → R a b) → IfSome x P → IfSome z Q → IfSome x (λ (a : List ℕ). IfSome y (λ (b : List ℕ). R a b))
 both_told None y z P Q R same step p q = tt
@@ -134,13 +114,12 @@ both_told (Some a) (Some b) z P Q R same step p q = step a b p (subst (λ (o : O
 held_journal : (file : List ℕ) (r : Replay) → IsStateOf file (state.Held r) → IsJournalOf file r.journal
 held_journal file r is = record { end = (file_sound file (image_of r) is.image).0; length = sym is.length }
 
-pub journal_of : (first second : FileState) (found : Holding) (which : Which) (r : Replay) (result : Result (Warehouse × Place) StoreFault) → IsChosen first second found (Ok (which, r))
-    → IfOk result (λ (o : Warehouse × Place). o.1 ≡ record { which = which; generation = r.generation; journal = r.journal; live = true })
-    → IfOk result (λ (o : Warehouse × Place). (file : List ℕ) → IsStateOf file (file_state o.1.which first second) → IsJournalOf file o.1.journal)
-journal_of first second found which r (Ok (w, p)) chosen place = λ file is.
+pub journal_of : (first second : FileState) (found : Holding) (which : Which) (r : Replay) (p : Place) → IsChosen first second found (Ok (which, r))
+    → p ≡ record { which = which; generation = r.generation; journal = r.journal; live = true }
+    → (file : List ℕ) → IsStateOf file (file_state p.which first second) → IsJournalOf file p.journal
+journal_of first second found which r p chosen place file is =
     subst (IsJournalOf file) (sym (ap (λ (q : Place). q.journal) place))
     (held_journal file r (subst (IsStateOf file) (ap (λ (q : Place). file_state q.which first second) place ∙ chosen.1) is))
-journal_of first second found which r (Err e) chosen place = tt
 
 -- of two contents, that of the file that counts, where it is told
 which_told : {D : Type 0} (content : D → Option (List ℕ)) (first second : D) (x y : Option (List ℕ)) (in_first in_second : FileState) (which : Which) (R : List ℕ → Type 0) → content first ≡ x → content second ≡ y

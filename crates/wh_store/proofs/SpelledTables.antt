@@ -1,5 +1,5 @@
 -- Rows whose values have a spelling, before and after changes that have one.
-use Rattle.std.proofs.Common.{ℕ, zero, suc, ◌<◌, not, inl, inr, List, [], ◌∷◌, ◌++◌, length, get_or, Contains, subst}
+use Rattle.std.proofs.Common.{ℕ, zero, suc, not, inl, inr, List, [], ◌∷◌, ◌++◌, length, get_or, Contains, subst}
 use Rattle.std.specs.List.{AllByRecursion}
 use Rattle.std.proofs.lemmas.List.Elements.{Contains-append_cases, Contains-get_or}
 use Rattle.wh_base.specs.declared.value.Delta.{Delta}

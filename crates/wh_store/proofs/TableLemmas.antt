@@ -1,6 +1,6 @@
 -- Tables in memory.
-use Rattle.std.proofs.Common.{◌≡◌, ℕ, ◌+◌, ◌<◌, Bool, true, false, List, [], ◌∷◌, ◌++◌, length, get_or, nat_eq, refl, sym, ap, subst, ◌∙◌, arith, below_more}
-use Rattle.std.specs.List.{list_all, list_any, IsDistinct, AllByRecursion}
+use Rattle.std.proofs.Common.{◌≡◌, ℕ, ◌+◌, ◌<◌, true, false, List, [], ◌∷◌, ◌++◌, length, get_or, nat_eq, refl, sym, ap, subst, ◌∙◌, arith, below_more}
+use Rattle.std.specs.List.{list_all, list_any}
 use Rattle.std.specs.Ordering.{eq_by_cmp}
 use Rattle.std.proofs.lemmas.Bool.{eqb-true}
 use Rattle.std.proofs.lemmas.List.{get_or_append_left, get_or_at}
@@ -17,7 +17,7 @@ use Rattle.wh_plan.specs.Plan.{IsPlan}
 use Rattle.wh_schema.specs.Warehouse.{numbers}
 use Rattle.wh_spec_text.specs.Textual.{IsTextualSpec}
 use Rattle.wh_store.specs.declared.warehouse.Warehouse.{Warehouse}
-use Rattle.wh_store.specs.Image.{stored_count, stored_attrs, fits_stored, fit_stored}
+use Rattle.wh_store.specs.Image.{stored_count, fits_stored, fit_stored}
 use Rattle.wh_store.specs.Opening.{stored_heads, IsTableOf, AreTablesOf}
 use Rattle.wh_store.specs.Warehouse.{no_table, table_at, IsInForm, HasRows}
 use Rattle.wh_store.proofs.StoredLemmas.{and_true, attrs_stored}

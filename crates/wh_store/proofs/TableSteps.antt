@@ -157,6 +157,15 @@ may_change n old deltas mid i d t here value fits room so_far =
       room = subst (λ (x : Delta). length x.inserted ≤ t.spare) (sym here.2) (subst (λ (x : IndexedRows). length (get_or deltas n no_delta).inserted ≤ x.spare) (sym same) (room n (omega (arith, here.0, fits.count))));
     }
 
+pub may_change_now : (n : ℕ) (old : List IndexedRows) (deltas : List Delta) (mid : List IndexedRows) (i : ℕ) (d : Delta) (t : IndexedRows) → (n < length deltas) × (i ≡ n) × (d ≡ get_or deltas n no_delta) → t ≡ get_or mid i t
+    → CanApplyAll old deltas → ((k : ℕ) → k < length old → AreDistinct (table_at old k).rows) → AreChangedTo n old deltas mid → record { fits : CanApply t.rows d; distinct : AreDistinct t.rows }
+may_change_now n old deltas mid i d t here value fits once so_far =
+    let same : t ≡ table_at old n = read_at mid i n t (omega (arith, here.0, fits.count, so_far.count)) here.1 value ∙ so_far.rest n (omega arith) in
+    record {
+      fits = subst (λ (x : Delta). CanApply t.rows x) (sym here.2) (subst (λ (x : IndexedRows). CanApply x.rows (get_or deltas n no_delta)) (sym same) (fits.each n (omega (arith, here.0, fits.count))));
+      distinct = subst (λ (x : IndexedRows). AreDistinct x.rows) (sym same) (once n (omega (arith, here.0, fits.count)));
+    }
+
 pub changed_by : (n m : ℕ) (old : List IndexedRows) (deltas : List Delta) (mid : List IndexedRows) (i : ℕ) (d : Delta) (t u : IndexedRows) → (n < length deltas) × (i ≡ n) × (d ≡ get_or deltas n no_delta) → m ≡ n + 1 → t ≡ get_or mid i t
     → length deltas ≡ length old → AreChangedTo n old deltas mid → IsChanged t d u → AreChangedTo m old deltas (set mid i u)
 changed_by n m old deltas mid i d t u here next value count so_far step =

@@ -1,5 +1,5 @@
 -- What a specification that a text gives is known to be: well formed, within the limits, and each of its relations has a key.
-use Rattle.std.proofs.Common.{◌≡◌, ℕ, ◌+◌, ◌<◌, true, List, [], ◌∷◌, map, length, nat_lt, IsTrue, Result, Ok, Err, refl, arith}
+use Rattle.std.proofs.Common.{◌≡◌, ℕ, true, List, [], ◌∷◌, map, length, nat_lt, IsTrue, Result, Ok, Err, refl, arith}
 use Rattle.std.specs.List.{list_all, AllByRecursion}
 use Rattle.std.proofs.lemmas.Bool.Decides.{nat_tests}
 use Rattle.wh_covers.specs.Covers.{IsNumbered}

@@ -1,5 +1,5 @@
 -- What the two files of a warehouse hold: nothing, the state of one of them, or damage.
-use Rattle.std.specs.Prelude.{ℕ, ◌+◌, ◌-◌, ◌^◌, ◌==◌, nat_lt, Bool, true, false, not, ◌&&◌, List, [], ◌∷◌, ◌++◌, length, map, get_or, Option, None, Some, is_some, option_map, Result, Ok, Err, if◌then◌else◌}
+use Rattle.std.specs.Prelude.{ℕ, ◌+◌, ◌-◌, ◌^◌, ◌==◌, nat_lt, Bool, not, ◌&&◌, List, [], ◌∷◌, ◌++◌, length, map, get_or, Option, None, Some, is_some, Result, Ok, Err, if◌then◌else◌}
 use Rattle.std.specs.Cmp.Lexicographic.{pointwise}
 use Rattle.std.specs.List.{list_all, list_any, position}
 use Rattle.std.specs.Str.{bytes_eq}
@@ -13,7 +13,7 @@ use Rattle.wh_codec.specs.declared.frame.Frame.{Frame}
 use Rattle.wh_codec.specs.declared.frame.Frame.TheVariants.{Snapshot, Change}
 use Rattle.wh_codec.specs.Reading.{frame_of}
 use Rattle.wh_expr.specs.Typing.{kind_eq}
-use Rattle.wh_journal.specs.File.{is_empty, frames_of}
+use Rattle.wh_journal.specs.File.{frames_of}
 use Rattle.wh_plan.specs.Plan.{too_many}
 use Rattle.wh_schema.specs.declared.spec.Spec.{Spec}
 use Rattle.wh_schema.specs.Heads.{heads_of}

@@ -6,7 +6,7 @@ use Rattle.wh_base.specs.declared.value.Attr.{Attr}
 use Rattle.wh_base.specs.declared.value.Delta.{Delta}
 use Rattle.wh_base.specs.declared.head.Head.{Head}
 use Rattle.wh_base.specs.Heads.{attrs_at}
-use Rattle.wh_base.specs.RowSet.{AreDistinct, IsAscending, SameRows}
+use Rattle.wh_base.specs.RowSet.{AreDistinct, SameRows, in_order}
 use Rattle.wh_codec.specs.Body.{IsSpelledValue}
 use Rattle.wh_plan.specs.declared.plan.Plan.{Plan}
 use Rattle.wh_plan.specs.Plan.{IsPlan}
@@ -15,7 +15,6 @@ use Rattle.wh_schema.specs.Heads.{view_head, complement_head}
 use Rattle.wh_schema.specs.Warehouse.{Row, numbers}
 use Rattle.wh_spec_text.specs.declared.fault.SpecTextFault.{SpecTextFault}
 use Rattle.wh_spec_text.specs.Printed.{spec_text}
-use Rattle.wh_spec_text.specs.SpecTexts.{spec_of_text}
 use Rattle.wh_spec_text.specs.Textual.{IsTextualSpec}
 use Rattle.wh_store.specs.declared.fault.StoreFault.{StoreFault}
 use Rattle.wh_store.specs.declared.fault.StoreFault.TheVariants as fault
@@ -24,7 +23,7 @@ use Rattle.wh_store.specs.declared.replay.FileState.{FileState}
 use Rattle.wh_store.specs.declared.replay.FileState.TheVariants as state
 use Rattle.wh_store.specs.declared.warehouse.Which.{Which}
 use Rattle.wh_store.specs.declared.warehouse.Which.TheVariants.{First, Second}
-use Rattle.wh_store.specs.Image.{Image, Active, Holding, file_image, fit_stored, fit_attrs, first_over, applies, no_delta}
+use Rattle.wh_store.specs.Image.{Image, Holding, file_image, fit_stored, fit_attrs, first_over, applies, no_delta}
 use Rattle.wh_store.specs.Warehouse.{table_at}
 use Rattle.wh_table.specs.Table.{IndexedRows}
 
@@ -66,22 +65,34 @@ pub record AreTablesOf (plan : Plan) (stored : List Head) (rows : List (List Row
   pub count : length tables ≡ length rows
   pub each : (k : ℕ) → k < length rows → IsTableOf (length (attrs_at stored k)) (get_or plan.indexes k []) (get_or rows k []) (table_at tables k)
 
+-- each table has each of its rows once
+abbrev pub AreDistinctTables : List IndexedRows → Type 0
+AreDistinctTables tables = (k : ℕ) → k < length tables → AreDistinct (table_at tables k).rows
+
+-- the rows of each table, in row order
+abbrev pub ordered_rows : List IndexedRows → List (List Row)
+ordered_rows tables = map (λ t. in_order t.rows) tables
+
 -- ---- one file
 
 -- the image that the frames so far come to
 abbrev pub image_of : Replay → Image
-image_of r = record { generation = r.generation; seq = r.seq; spec = r.plan.spec; tables = r.tables; end = r.journal.end }
+image_of r = record { generation = r.generation; seq = r.seq; spec = r.plan.spec; tables = ordered_rows r.tables; end = r.journal.end }
 
--- The plan is that of a textual specification, and the tables are its stored ones, in order, with values that have a
--- spelling and with few enough rows.
+-- Tables with the width and the indexed sets of a plan's stored ones, whose rows have their kinds and values that have a
+-- spelling, and are few enough.
+pub record AreSoundTables (plan : Plan) (stored : List Head) (tables : List IndexedRows) : Type 0 where
+  pub form : AreTablesOf plan stored (ordered_rows tables) tables
+  pub fits : fit_stored plan.spec (ordered_rows tables) ≡ true
+  pub spelled : AreSpelledTables (ordered_rows tables)
+  pub few : first_over (ordered_rows tables) ≡ None
+
+-- The plan is that of a textual specification, and the tables are its stored ones.
 pub record IsSound (r : Replay) : Type 0 where
   pub plan : IsPlan r.plan
   pub textual : IsTextualSpec r.plan.spec
   pub stored : r.stored ≡ stored_heads r.plan.spec
-  pub fits : fit_stored r.plan.spec r.tables ≡ true
-  pub ascending : AllByRecursion IsAscending r.tables
-  pub spelled : AreSpelledTables r.tables
-  pub few : first_over r.tables ≡ None
+  pub tables : AreSoundTables r.plan r.stored r.tables
 
 -- what was read of a file, as what it holds
 abbrev pub found_of : FileState → Result (Option Image) ℕ

@@ -1,6 +1,5 @@
 -- What the calls on a store answer.
-use Rattle.std.specs.Prelude.{◌≡◌, ◌⊎◌, ℕ, ◌+◌, ◌^◌, nat_lt, nat_le, Bool, true, false, ◌&&◌, ◌||◌, not, List, [], ◌∷◌, length, map, Option, None, Some, Result, Ok, Err}
-use Rattle.std.specs.List.{position}
+use Rattle.std.specs.Prelude.{◌≡◌, ◌⊎◌, ℕ, ◌+◌, ◌^◌, nat_lt, nat_le, Bool, true, false, ◌&&◌, ◌||◌, List, ◌∷◌, length, None, Some, Result, Ok, Err}
 use Rattle.wh_codec.specs.declared.frame.Frame.TheVariants.{Snapshot}
 use Rattle.wh_codec.specs.Body.{frame_bytes}
 use Rattle.wh_journal.specs.File.{is_empty, framed}

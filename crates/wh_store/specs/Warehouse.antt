@@ -1,5 +1,5 @@
 -- A warehouse in memory, and the place in the files that it stands at.
-use Rattle.std.specs.Prelude.{◌≡◌, ℕ, ◌+◌, ◌<◌, ◌≤◌, Bool, true, List, [], ◌∷◌, length, get_or, Option, None, Some, Ok}
+use Rattle.std.specs.Prelude.{◌≡◌, ℕ, ◌<◌, ◌≤◌, true, List, [], length, get_or, Some, Ok}
 use Rattle.std.specs.List.{AllByRecursion}
 use Rattle.wh_base.specs.RowSet.{SameRows}
 use Rattle.wh_codec.specs.Body.{IsSpelledValue}

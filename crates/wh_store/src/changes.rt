@@ -4,6 +4,7 @@ ghost use Rattle.wh_base.specs.RowSet.{AreDistinct, SameRows};
 ghost use Rattle.wh_base.specs.Tables.{without};
 ghost use Rattle.wh_store.specs.Commit.{CanApplyAll, AreKept, AreChanged, HasRoom, first_over_after};
 ghost use Rattle.wh_store.specs.Image.{row_limit};
+ghost use Rattle.wh_store.specs.Opening.{AreDistinctTables};
 ghost use Rattle.wh_table.specs.Table.{CanApply};
 
 use crate::tables::ROW_LIMIT;
@@ -80,6 +81,49 @@ pub(crate) fn apply_all(tables: &mut Tables, prepared: Vec<Prepared>)
     let mut items = mem::replace(tables, none).into_vec();
     apply_each(&mut items, prepared);
     *tables = Sequence::from_vec(items);
+}
+
+// Makes a change of one table, which is not touched where no row is changed.
+fn change(alloc: Global, table: &mut Table, delta: Delta) -> Result<(), NoMemory>
+    requires fits { CanApply table.old.rows delta }
+    requires distinct { AreDistinct table.old.rows }
+    ensures rows { OnOk result (SameRows table.new.rows (without table.old.rows delta.deleted ++ delta.inserted)) }
+    ensures distinct { OnOk result (AreDistinct table.new.rows) }
+    ensures width { OnOk result (table.new.width ≡ table.old.width) }
+    ensures indexes { OnOk result (table.new.indexes ≡ table.old.indexes) }
+{
+    if delta.deleted.is_empty() && delta.inserted.is_empty() {
+        return Ok(());
+    }
+    let prepared = table.prepare(alloc, delta)?;
+    apply(table, prepared);
+    Ok(())
+}
+
+fn change_each(alloc: Global, tables: &mut Vec<Table>, deltas: StoredDeltas) -> Result<(), NoMemory>
+    requires fits { CanApplyAll tables.old.items deltas }
+    requires distinct { AreDistinctTables tables.old.items }
+    ensures { OnOk result (AreChanged tables.old.items deltas tables.new.items) }
+{
+    for (table, delta) in deltas.into_vec().into_iter().enumerate() {
+        change(alloc, &mut tables[table], delta)?;
+    }
+    Ok(())
+}
+
+/// The tables after deltas, one for each.
+pub(crate) fn change_all(
+    alloc: Global,
+    tables: Tables,
+    deltas: StoredDeltas,
+) -> Result<Tables, NoMemory>
+    requires fits { CanApplyAll tables deltas }
+    requires distinct { AreDistinctTables tables }
+    ensures { IfOk result (AreChanged tables deltas) }
+{
+    let mut items = tables.into_vec();
+    change_each(alloc, &mut items, deltas)?;
+    Ok(Sequence::from_vec(items))
 }
 
 // Whether a table would have too many rows.

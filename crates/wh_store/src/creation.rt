@@ -12,12 +12,12 @@ ghost use Rattle.wh_spec_text.specs.Printed.{spec_text};
 ghost use Rattle.wh_spec_text.specs.Textual.{IsTextualSpec};
 ghost use Rattle.wh_store.specs.Creation.{tables_in, IsTooLong, IsRefusedLoad, IsKeptOrAlone};
 ghost use Rattle.wh_store.specs.Image.{fit_stored, first_over};
-ghost use Rattle.wh_store.specs.Store.{IsCreated, IsLoaded, IsEmptyOrLoaded, loaded_body, loaded_file, is_too_large, are_empty, is_disk_fault, UnlessDiskFault, Refuses};
-ghost use Rattle.wh_store.specs.Warehouse.{HoldsValues};
+ghost use Rattle.wh_store.specs.Store.{IsCreated, IsLoaded, IsEmptyOrLoaded, loaded_body, loaded_file, is_too_large, loaded_image, are_empty, is_disk_fault, UnlessDiskFault, Refuses};
+ghost use Rattle.wh_store.specs.Warehouse.{HoldsValues, IsWarehouseOf};
 
 use crate::emptiness::both_empty;
 use crate::fault::StoreFault;
-use crate::tables::{first_over, stored_heads};
+use crate::tables::first_over;
 use crate::warehouse::{Place, Warehouse, Which, warehouse_of};
 use std::alloc::Global;
 use wh_base::{ByteText, Bytes, Failed, NoMemory, StoredRows};
@@ -151,8 +151,34 @@ fn write_alone<D: Disk>(disk: &mut D, only: &Framed) -> Result<Journal, Failed>
     Ok(journal)
 }
 
+// The warehouse of a plan with these rows, beside the frame of its first snapshot. It writes nothing.
+fn first_warehouse(
+    alloc: Global,
+    plan: Plan,
+    rows: StoredRows,
+) -> Result<(Warehouse, Framed), StoreFault>
+    requires textual { IsTextualSpec plan.spec }
+    requires plan { IsPlan plan }
+    requires tables { fit_stored plan.spec rows ≡ true }
+    requires ascending { AllByRecursion IsAscending rows }
+    requires spelled { AllByRecursion (AllByRecursion IsSpelledRow) rows }
+    ensures warehouse { IfOk result (λ made. IsWarehouseOf (loaded_image plan.spec rows) made.0) }
+    ensures values { IfOk result (λ made. HoldsValues made.0) }
+    ensures frame { IfOk result (λ made. made.1 ≡ loaded_body plan.spec rows) }
+    ensures few { OnOk result (first_over rows ≡ None) }
+    ensures small { OnOk result (is_too_large plan.spec rows ≡ false) }
+    ensures short { OnOk result (length (spec_text plan.spec) < 2 ^ 32) }
+    ensures fits { IfOk result (λ made. 10 + length made.1 ≤ 2 ^ 40) }
+    ensures fault { IfErr result (IsRefusedLoad plan.spec rows) }
+{
+    let (framed, rows) = loaded_frame(alloc, &plan.spec, rows)?;
+    let warehouse = warehouse_of(alloc, plan, rows, 0)?;
+    Ok((warehouse, framed))
+}
+
 /// Writes the first snapshot of a store into two empty files: the specification and its stored tables. Where nothing was
-/// pending, a crash at any moment of the call leaves two empty files or the loaded store.
+/// pending, a crash at any moment of the call leaves two empty files or the loaded store. Where a file is not empty, and
+/// at each refusal, it leaves at any moment what it might have left before the call.
 pub fn create<D: Disk>(
     alloc: Global,
     plan: Plan,
@@ -176,14 +202,14 @@ pub fn create<D: Disk>(
     ensures second_durable { IsSettled (D.content second.old) (D.images second.old) → IsSettled (D.content second.new) (D.images second.new) }
     ensures any_moment { IsSettled (D.content first.old) (D.images first.old) → IfSome (D.content first.old) (λ a. IfSome (D.content second.old) (λ b. are_empty a b ≡ true → LeavesOnly D.moment D.images_since first.old first.new (IsEmptyOrLoaded plan.spec rows b))) }
     ensures second_moments { LeavesOnly D.moment D.images_since second.old second.new (D.images second.old) }
+    ensures full_moments { IfSome (D.content first.old) (λ a. IfSome (D.content second.old) (λ b. are_empty a b ≡ false → LeavesOnly D.moment D.images_since first.old first.new (D.images first.old))) }
+    ensures refused_moments { Refuses result (LeavesOnly D.moment D.images_since first.old first.new (D.images first.old)) }
     ensures cause { IsCountedPair (is_disk_fault result) (D.faults first.old) (D.faults first.new) (D.faults second.old) (D.faults second.new) }
 {
     if !both_empty(first, second)? {
         return Err(StoreFault::AlreadyLoaded);
     }
-    let stored = stored_heads(alloc, &plan.spec)?;
-    let (framed, rows) = loaded_frame(alloc, &plan.spec, rows)?;
-    let warehouse = warehouse_of(alloc, plan, stored.as_slice(), rows, 0)?;
+    let (warehouse, framed) = first_warehouse(alloc, plan, rows)?;
     let journal = write_alone(first, &framed)?;
     let place = Place {
         which: Which::First,

@@ -12,7 +12,7 @@ ghost use Rattle.wh_store.specs.Warehouse.{HoldsValues, IsInForm, IsWarehouseOf}
 
 use crate::fault::StoreFault;
 use crate::replay::{FileState, Replay, state_in};
-use crate::warehouse::{Place, Warehouse, Which, warehouse_of};
+use crate::warehouse::{Place, Warehouse, Which};
 use std::alloc::Global;
 use wh_io::Disk;
 use wh_journal::{JournalFault, recover};
@@ -107,38 +107,32 @@ fn chosen(first: FileState, second: FileState) -> Result<(Which, Replay), StoreF
 }
 
 // The warehouse and the place of a state.
-fn opened(alloc: Global, which: Which, state: Replay) -> Result<(Warehouse, Place), StoreFault>
+fn opened(which: Which, state: Replay) -> (Warehouse, Place)
     requires { IsSound state }
-    ensures warehouse { IfOk result (λ opened. IsWarehouseOf (image_of state) opened.0) }
-    ensures values { IfOk result (λ opened. HoldsValues opened.0) }
-    ensures place { IfOk result (λ opened. opened.1 ≡ record { which = which; generation = state.generation; journal = state.journal; live = true }) }
-    ensures fault { IfErr result IsNoRefusal }
-    ensures no_disk { is_disk_fault result ≡ false }
+    ensures warehouse { IsWarehouseOf (image_of state) result.0 }
+    ensures values { HoldsValues result.0 }
+    ensures place { result.1 ≡ record { which = which; generation = state.generation; journal = state.journal; live = true } }
 {
     let Replay {
         generation,
         seq,
         plan,
-        stored,
+        stored: _stored,
         tables,
         journal,
     } = state;
-    let warehouse = warehouse_of(alloc, plan, stored.as_slice(), tables, seq)?;
+    let warehouse = Warehouse { plan, tables, seq };
     let place = Place {
         which,
         generation,
         journal,
         live: true,
     };
-    Ok((warehouse, place))
+    (warehouse, place)
 }
 
 // The warehouse and the place of the state that counts.
-fn outcome(
-    alloc: Global,
-    first: FileState,
-    second: FileState,
-) -> Result<(Warehouse, Place), StoreFault>
+fn outcome(first: FileState, second: FileState) -> Result<(Warehouse, Place), StoreFault>
     requires first { IsSoundState first }
     requires second { IsSoundState second }
     ensures answer { (a b : List ℕ) → IsStateOf a first → IsStateOf b second → IsOpen a b result }
@@ -149,7 +143,7 @@ fn outcome(
     ensures no_disk { is_disk_fault result ≡ false }
 {
     match chosen(first, second) {
-        Ok((which, state)) => opened(alloc, which, state),
+        Ok((which, state)) => Ok(opened(which, state)),
         Err(fault) => Err(fault),
     }
 }
@@ -180,5 +174,5 @@ pub fn open_store<D: Disk>(
     second.sync()?;
     let in_first = read_state(alloc, first)?;
     let in_second = read_state(alloc, second)?;
-    outcome(alloc, in_first, in_second)
+    outcome(in_first, in_second)
 }

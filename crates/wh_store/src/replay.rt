@@ -11,11 +11,13 @@ ghost use Rattle.wh_store.specs.Opening.{image_of, IsSound, found_of, IsSoundSta
 
 use crate::reading::{frame_in, plan_in};
 use crate::tables::{are_stored_tables, next_tables, stored_heads};
+use crate::warehouse::tables_of;
 use std::alloc::Global;
 use wh_base::{ByteText, Bytes, Heads, NoMemory, StoredDeltas, StoredRows, Texts};
 use wh_codec::Frame;
 use wh_journal::{Found, Journal};
 use wh_plan::Plan;
+use wh_table::Tables;
 
 /// What the frames of a file come to so far: a snapshot, and the changes behind it.
 #[derive(Drop)]
@@ -25,7 +27,7 @@ pub(crate) struct Replay {
     pub(crate) plan: Plan,
     /// The heads of the stored tables.
     pub(crate) stored: Heads,
-    pub(crate) tables: StoredRows,
+    pub(crate) tables: Tables,
     /// It ends behind the frames so far, and has the file's length.
     pub(crate) journal: Journal,
 }
@@ -60,6 +62,7 @@ fn of_snapshot(
     if !are_stored_tables(&plan.spec, stored.as_slice(), tables.as_slice()) {
         return Ok(None);
     }
+    let tables = tables_of(alloc, &plan, stored.as_slice(), tables)?;
     Ok(Some(Replay {
         generation,
         seq,
@@ -110,12 +113,12 @@ fn changed(
     alloc: Global,
     state: Replay,
     seq: u64,
-    deltas: &StoredDeltas,
+    deltas: StoredDeltas,
     end: u64,
 ) -> Result<Option<Replay>, NoMemory>
     requires sound { IsSound state }
-    requires spelled { IsSpelledChange seq deltas.now }
-    ensures image { IfOk result (λ next. option_map image_of next ≡ after_frame (image_of state) end (Some (Change seq deltas.now))) }
+    requires spelled { IsSpelledChange seq deltas }
+    ensures image { IfOk result (λ next. option_map image_of next ≡ after_frame (image_of state) end (Some (Change seq deltas))) }
     ensures sound { IfOk result (λ next. IfSome next IsSound) }
     ensures length { IfOk result (λ next. IfSome next (λ r. r.journal.length ≡ state.journal.length)) }
     ensures end { IfOk result (λ next. IfSome next (λ r. r.journal.end ≡ end)) }
@@ -131,7 +134,7 @@ fn changed(
         tables,
         journal,
     } = state;
-    let Some(tables) = next_tables(alloc, &plan.spec, stored.as_slice(), tables, deltas)? else {
+    let Some(tables) = next_tables(alloc, &plan, stored.as_slice(), tables, deltas)? else {
         return Ok(None);
     };
     let journal = Journal {
@@ -168,7 +171,7 @@ fn next_state(alloc: Global, state: Replay, body: &ByteText) -> Result<Option<Re
             spec: _spec,
             tables: _tables,
         } => Ok(None),
-        Frame::Change { seq, deltas } => changed(alloc, state, seq, &deltas, end),
+        Frame::Change { seq, deltas } => changed(alloc, state, seq, deltas, end),
     }
 }
 

@@ -1,22 +1,22 @@
 // The rules of stored tables, and changes of them.
-ghost use Rattle.std.specs.Prelude.{◌≡◌, ◌++◌, true, if◌then◌else◌, length, Some, None, IfOk, IfSome};
+ghost use Rattle.std.specs.Prelude.{◌≡◌, true, if◌then◌else◌, length, nat_lt, Some, None, IfOk, IfSome};
 ghost use Rattle.std.specs.Cmp.Lexicographic.{pointwise};
-ghost use Rattle.std.specs.List.{list_all, list_any, AllByRecursion};
+ghost use Rattle.std.specs.List.{list_all, list_any, position, AllByRecursion};
+ghost use Rattle.std.specs.Option.{option_map};
 ghost use Rattle.wh_base.specs.Heads.{attrs_at};
-ghost use Rattle.wh_base.specs.RowSet.{has, IsAscending};
+ghost use Rattle.wh_base.specs.RowSet.{has};
 ghost use Rattle.wh_base.specs.Value.{row_kinds, value_kind, kinds};
-ghost use Rattle.wh_base.specs.Tables.{without};
 ghost use Rattle.wh_codec.specs.Body.{IsSpelledDelta};
 ghost use Rattle.wh_expr.specs.Typing.{kind_eq};
-ghost use Rattle.wh_store.specs.Image.{fit_attrs, fit_stored, first_over, are_stored_tables, applies, changed_table, changed_tables, are_stored_deltas};
-ghost use Rattle.wh_store.specs.Opening.{stored_heads, fit_heads, takes, all_take, AreSpelledTables};
+ghost use Rattle.wh_store.specs.Image.{fit_attrs, first_over, row_limit, are_stored_tables, applies, changed_tables, are_stored_deltas};
+ghost use Rattle.wh_store.specs.Opening.{stored_heads, fit_heads, takes, all_take, ordered_rows, AreSoundTables};
 
+use crate::changes::change_all;
 use std::alloc::Global;
-use wh_base::{
-    Attr, Delta, Duplicate, Head, Heads, Kind, NoMemory, Row, Rows, StoredDeltas, StoredRows,
-    Value, sort_rows,
-};
+use wh_base::{Attr, Delta, Head, Heads, Kind, NoMemory, Row, Rows, StoredDeltas, Value};
+use wh_plan::Plan;
 use wh_schema::{Spec, heads};
+use wh_table::{Table, Tables};
 
 /// The most rows that a stored table may have.
 pub(crate) const ROW_LIMIT: usize = 4_000_000;
@@ -91,122 +91,54 @@ fn fit_heads(stored: &[Head], tables: &[Rows]) -> bool
     true
 }
 
-// Whether a row is among ascending ones.
-fn contains(rows: &[Row], row: &Row) -> bool
-    requires { IsAscending rows.now }
-    ensures { result ≡ has rows.now row.now }
+// Whether a table has all of some rows.
+fn has_all(table: &Table, sought: &[Row]) -> bool
+    ensures { result ≡ list_all (has table.now.rows) sought.now }
 {
-    rows.binary_search(row).is_ok()
+    sought.iter().all(|row| table.contains(row))
 }
 
-fn has_all(rows: &[Row], sought: &[Row]) -> bool
-    requires { IsAscending rows.now }
-    ensures { result ≡ list_all (has rows.now) sought.now }
+// Whether a table has one of some rows.
+fn has_any(table: &Table, sought: &[Row]) -> bool
+    ensures { result ≡ list_any (has table.now.rows) sought.now }
 {
-    for row in sought {
-        if !contains(rows, row) {
-            return false;
-        }
-    }
-    true
+    sought.iter().any(|row| table.contains(row))
 }
 
-fn has_any(rows: &[Row], sought: &[Row]) -> bool
-    requires { IsAscending rows.now }
-    ensures { result ≡ list_any (has rows.now) sought.now }
+// Whether the deleted rows are in a table and the inserted ones are not.
+fn applies(table: &Table, delta: &Delta) -> bool
+    ensures { result ≡ applies table.now.rows delta.now }
 {
-    for row in sought {
-        if contains(rows, row) {
-            return true;
-        }
-    }
-    false
+    has_all(table, delta.deleted.as_slice()) && !has_any(table, delta.inserted.as_slice())
 }
 
-fn applies(rows: &[Row], delta: &Delta) -> bool
-    requires { IsAscending rows.now }
-    ensures { result ≡ applies rows.now delta.now }
+// Whether a table takes a delta. It costs the delta's rows alone.
+fn takes(attrs: &[Attr], table: &Table, delta: &Delta) -> bool
+    ensures { result ≡ takes attrs.now table.now.rows delta.now }
 {
-    has_all(rows, delta.deleted.as_slice()) && !has_any(rows, delta.inserted.as_slice())
-}
-
-// The rows that are not among the gone ones.
-fn without(alloc: Global, rows: Rows, gone: &[Row]) -> Result<Rows, NoMemory>
-    requires { IsAscending gone.now }
-    ensures { IfOk result (λ kept. kept ≡ without rows gone.now) }
-{
-    let mut kept = Rows::new(alloc);
-    for row in rows.into_vec() {
-        if !contains(gone, &row) {
-            kept.push(row)?;
-        }
-    }
-    Ok(kept)
-}
-
-fn append(alloc: Global, rows: Rows, more: &[Row]) -> Result<Rows, NoMemory>
-    ensures { IfOk result (λ both. both ≡ rows ++ more.now) }
-{
-    let mut rows = rows;
-    for row in more {
-        rows.push(row.copy(alloc)?)?;
-    }
-    Ok(rows)
-}
-
-// The table after a change. One that is not touched is handed back.
-fn changed_table(alloc: Global, rows: Rows, delta: &Delta) -> Result<Rows, NoMemory>
-    requires table { IsAscending rows }
-    requires deleted { IsAscending delta.now.deleted }
-    ensures { IfOk result (λ changed. changed ≡ changed_table rows delta.now) }
-{
-    if delta.deleted.is_empty() && delta.inserted.is_empty() {
-        return Ok(rows);
-    }
-    let kept = without(alloc, rows, delta.deleted.as_slice())?;
-    sort_rows(append(alloc, kept, delta.inserted.as_slice())?)
-}
-
-// Whether a table takes a delta.
-fn takes(attrs: &[Attr], rows: &[Row], delta: &Delta) -> bool
-    requires { IsAscending rows.now }
-    ensures { result ≡ takes attrs.now rows.now delta.now }
-{
-    applies(rows, delta) && fit_attrs(attrs, delta.inserted.as_slice())
+    applies(table, delta) && fit_attrs(attrs, delta.inserted.as_slice())
 }
 
 // Whether there is one delta for each table, which the table takes.
-fn all_take(stored: &[Head], tables: &[Rows], deltas: &[Delta]) -> bool
-    requires { AllByRecursion IsAscending tables.now }
-    ensures { result ≡ all_take stored.now tables.now deltas.now }
+fn all_take(stored: &[Head], tables: &[Table], deltas: &[Delta]) -> bool
+    ensures { result ≡ all_take stored.now (ordered_rows tables.now) deltas.now }
 {
     if deltas.len() != tables.len() {
         return false;
     }
     for k in 0..tables.len() {
-        if !takes(attrs_at(stored, k), tables[k].as_slice(), &deltas[k]) {
+        if !takes(attrs_at(stored, k), &tables[k], &deltas[k]) {
             return false;
         }
     }
     true
 }
 
-fn changed_tables(
-    alloc: Global,
-    tables: StoredRows,
-    deltas: &[Delta],
-) -> Result<StoredRows, NoMemory>
-    requires count { length deltas.now ≡ length tables }
-    requires ascending { AllByRecursion IsAscending tables }
-    requires spelled { AllByRecursion IsSpelledDelta deltas.now }
-    ensures { IfOk result (λ changed. changed ≡ changed_tables tables deltas.now) }
+// The first table that has too many rows.
+fn first_full(tables: &[Table]) -> Option<usize>
+    ensures { result ≡ position (λ t. nat_lt row_limit (length t.rows)) tables.now }
 {
-    let mut changed = StoredRows::new(alloc);
-    for rows in tables.into_vec() {
-        let delta = &deltas[changed.len()];
-        changed.push(changed_table(alloc, rows, delta)?)?;
-    }
-    Ok(changed)
+    tables.iter().position(|table| table.len() > ROW_LIMIT)
 }
 
 /// Whether there is one table for each that is stored, of its kinds and with few enough rows.
@@ -218,30 +150,25 @@ pub(crate) fn are_stored_tables(spec: &Spec, stored: &[Head], tables: &[Rows]) -
     fit_heads(stored, tables) && first_over(tables).is_none()
 }
 
-/// The tables after a change, or None where it breaks a rule.
+/// The tables after a change, or None where it breaks a rule. A table that has no row in the change is not touched.
 pub(crate) fn next_tables(
     alloc: Global,
-    spec: &Spec,
+    plan: &Plan,
     stored: &[Head],
-    tables: StoredRows,
-    deltas: &StoredDeltas,
-) -> Result<Option<StoredRows>, NoMemory>
-    requires stored { stored.now ≡ stored_heads spec.now }
-    requires fits { fit_stored spec.now tables ≡ true }
-    requires ascending { AllByRecursion IsAscending tables }
-    requires values { AreSpelledTables tables }
-    requires spelled { AllByRecursion IsSpelledDelta deltas.now }
-    ensures tables { IfOk result (λ next. next ≡ (if are_stored_deltas spec.now tables deltas.now then Some (changed_tables tables deltas.now) else None)) }
-    ensures fits { IfOk result (λ next. IfSome next (λ t. fit_stored spec.now t ≡ true)) }
-    ensures ascending { IfOk result (λ next. IfSome next (AllByRecursion IsAscending)) }
-    ensures values { IfOk result (λ next. IfSome next AreSpelledTables) }
-    ensures few { IfOk result (λ next. IfSome next (λ t. first_over t ≡ None)) }
+    tables: Tables,
+    deltas: StoredDeltas,
+) -> Result<Option<Tables>, NoMemory>
+    requires stored { stored.now ≡ stored_heads plan.now.spec }
+    requires sound { AreSoundTables plan.now stored.now tables }
+    requires spelled { AllByRecursion IsSpelledDelta deltas }
+    ensures tables { IfOk result (λ next. option_map ordered_rows next ≡ (if are_stored_deltas plan.now.spec (ordered_rows tables) deltas then Some (changed_tables (ordered_rows tables) deltas) else None)) }
+    ensures sound { IfOk result (λ next. IfSome next (AreSoundTables plan.now stored.now)) }
 {
     if !all_take(stored, tables.as_slice(), deltas.as_slice()) {
         return Ok(None);
     }
-    let tables = changed_tables(alloc, tables, deltas.as_slice())?;
-    if first_over(tables.as_slice()).is_some() {
+    let tables = change_all(alloc, tables, deltas)?;
+    if first_full(tables.as_slice()).is_some() {
         return Ok(None);
     }
     Ok(Some(tables))

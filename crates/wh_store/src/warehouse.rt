@@ -9,7 +9,7 @@ ghost use Rattle.wh_store.specs.Warehouse.{HoldsValues, IsInForm, HasRows};
 ghost use Rattle.wh_table.specs.Table.{IsColumnSet};
 
 use crate::changes::apply;
-use crate::tables::attrs_at;
+use crate::tables::{attrs_at, stored_heads};
 use std::alloc::Global;
 use wh_base::{
     ColumnSets, Delta, Duplicate, Head, NoMemory, Rows, SourceDeltas, StoredDeltas, StoredRows,
@@ -84,8 +84,8 @@ fn table_of(alloc: Global, width: usize, indexes: ColumnSets, rows: Rows) -> Res
     Ok(table)
 }
 
-// The stored tables with these rows.
-fn tables_of(
+/// The stored tables with these rows.
+pub(crate) fn tables_of(
     alloc: Global,
     plan: &Plan,
     stored: &[Head],
@@ -105,17 +105,25 @@ fn tables_of(
     Ok(tables)
 }
 
+// The same, where the heads are not at hand.
+fn stored_tables(alloc: Global, plan: &Plan, rows: StoredRows) -> Result<Tables, NoMemory>
+    requires plan { IsPlan plan.now }
+    requires ascending { AllByRecursion IsAscending rows }
+    ensures { IfOk result (AreTablesOf plan.now (stored_heads plan.now.spec) rows) }
+{
+    let stored = stored_heads(alloc, &plan.spec)?;
+    tables_of(alloc, plan, stored.as_slice(), rows)
+}
+
 /// The warehouse of a plan with these rows in its stored tables.
 pub(crate) fn warehouse_of(
     alloc: Global,
     plan: Plan,
-    stored: &[Head],
     rows: StoredRows,
     seq: u64,
 ) -> Result<Warehouse, NoMemory>
     requires textual { IsTextualSpec plan.spec }
     requires plan { IsPlan plan }
-    requires stored { stored.now ≡ stored_heads plan.spec }
     requires fits { fit_stored plan.spec rows ≡ true }
     requires ascending { AllByRecursion IsAscending rows }
     requires spelled { AreSpelledTables rows }
@@ -126,6 +134,6 @@ pub(crate) fn warehouse_of(
     ensures rows { IfOk result (HasRows plan.spec rows) }
     ensures seq { IfOk result (λ warehouse. warehouse.seq ≡ seq) }
 {
-    let tables = tables_of(alloc, &plan, stored, rows)?;
+    let tables = stored_tables(alloc, &plan, rows)?;
     Ok(Warehouse { plan, tables, seq })
 }

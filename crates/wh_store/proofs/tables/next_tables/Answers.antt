@@ -1,58 +1,49 @@
-use Rattle.std.proofs.Common.{rules, ◌≡◌, ◌∙◌, true, false, not, List, Bool, Some, None, Option, is_some, if◌then◌else◌, sym, ap, subst}
-use Rattle.std.specs.List.{AllByRecursion}
-use Rattle.wh_base.specs.declared.value.Value.{Value}
-use Rattle.wh_base.specs.RowSet.{IsAscending}
-use Rattle.wh_store.specs.Image.{fit_stored, first_over, changed_tables}
-use Rattle.wh_store.specs.Opening.{stored_heads, all_take, AreSpelledTables}
-use Rattle.wh_store.proofs.ChangedTables.{not_stored, stored_by_rows, new_fits, changed_ascend}
-use Rattle.wh_store.proofs.SpelledTables.{changed_spelled}
+use Rattle.std.proofs.Common.{rules, ◌≡◌, ◌∙◌, Bool, true, false, is_some, length, nat_lt, sym, ap}
+use Rattle.std.specs.List.{position}
+use Rattle.wh_store.specs.Image.{row_limit}
+use Rattle.wh_store.specs.Opening.{all_take, ordered_rows}
+use Rattle.wh_store.proofs.HeldTables.{can_apply, distinct_tables, next_full, next_made, next_refused, sound_after}
 use Rattle.wh_store.proofs.tables.next_tables.Goals as goal
+use Rattle.wh_table.specs.Table.{IndexedRows}
 
-abbrev kept : Bool → List (List (List Value)) → Option (List (List (List Value)))
-kept b tables = if b then Some tables else None
+-- whether a table has too many rows
+abbrev is_full : IndexedRows → Bool
+is_full t = nat_lt row_limit (length t.rows)
 
 pub returns-then-not-all_take-clause-tables : goal.returns-then-not-all_take-clause-tables
 returns-then-not-all_take-clause-tables c =
-    let spec = c.args.spec.now in
-    let tables = c.args.tables in
-    let deltas = c.args.deltas.now in
     let f : c.all_take.result ≡ false = search rules in
-    let fails : all_take (stored_heads spec) tables deltas ≡ false = cc in
-    sym (ap (λ b. kept b (changed_tables tables deltas)) (not_stored spec tables deltas c.requires.fits fails))
+    let fails : all_take c.args.stored.now (ordered_rows c.args.tables) c.args.deltas ≡ false = cc in
+    next_refused c.args.plan.now c.args.stored.now c.args.tables c.args.deltas c.requires.stored c.requires.sound fails
+
+pub change_all-requires : goal.change_all-requires
+change_all-requires c =
+    let all : all_take c.args.stored.now (ordered_rows c.args.tables) c.args.deltas ≡ true = cc in
+    record {
+      fits = can_apply c.args.stored.now c.args.tables c.args.deltas all c.requires.spelled;
+      distinct = distinct_tables c.args.plan.now c.args.stored.now c.args.tables c.requires.sound.form;
+    }
+
+pub returns-then-is_some-clause-tables : goal.returns-then-is_some-clause-tables
+returns-then-is_some-clause-tables c =
+    let all : all_take c.args.stored.now (ordered_rows c.args.tables) c.args.deltas ≡ true = cc in
+    let new = c.in_ok-tables.tables in
+    let told : c.is_some.result ≡ true = search rules in
+    let full : is_some (position is_full new) ≡ true = sym (ap is_some (c.first_full.ensures ∙ ap (position is_full) c.as_slice-3.ensures)) ∙ sym c.is_some.ensures ∙ told in
+    next_full c.args.plan.now c.args.stored.now c.args.tables c.args.deltas c.requires.stored c.requires.sound all new c.in_ok-tables.ensures full
 
 pub returns-clause-tables : goal.returns-clause-tables
 returns-clause-tables c =
-    let spec = c.args.spec.now in
-    let tables = c.args.tables in
-    let deltas = c.args.deltas.now in
-    let f : c.all_take.result ≡ true = search rules in
-    let all : all_take (stored_heads spec) tables deltas ≡ true = cc in
-    let is : c.in_ok-tables.tables ≡ changed_tables tables deltas = c.in_ok-tables.ensures ∙ ap (changed_tables tables) c.as_slice-3.ensures in
-    let g : c.is_some.result ≡ false = search rules in
-    let over : is_some (first_over c.in_ok-tables.tables) ≡ false = sym (ap is_some (c.first_over.ensures ∙ ap first_over c.as_slice-4.ensures)) ∙ sym c.is_some.ensures ∙ g in
-    let few = sym (ap (λ (t : List (List (List Value))). is_some (first_over t)) is) ∙ over in
-    ap (λ (t : List (List (List Value))). Some t) is ∙ sym (ap (λ b. kept b (changed_tables tables deltas)) (stored_by_rows spec tables deltas c.requires.fits all ∙ ap not few))
+    let all : all_take c.args.stored.now (ordered_rows c.args.tables) c.args.deltas ≡ true = cc in
+    let new = c.in_ok-tables.tables in
+    let told : c.is_some.result ≡ false = search rules in
+    let full : is_some (position is_full new) ≡ false = sym (ap is_some (c.first_full.ensures ∙ ap (position is_full) c.as_slice-3.ensures)) ∙ sym c.is_some.ensures ∙ told in
+    next_made c.args.plan.now c.args.stored.now c.args.tables c.args.deltas c.requires.stored c.requires.sound all new c.in_ok-tables.ensures full
 
-pub returns-clause-fits : goal.returns-clause-fits
-returns-clause-fits c =
-    let spec = c.args.spec.now in
-    let tables = c.args.tables in
-    let deltas = c.args.deltas.now in
-    let f : c.all_take.result ≡ true = search rules in
-    let all : all_take (stored_heads spec) tables deltas ≡ true = cc in
-    let is : c.in_ok-tables.tables ≡ changed_tables tables deltas = c.in_ok-tables.ensures ∙ ap (changed_tables tables) c.as_slice-3.ensures in
-    ap (fit_stored spec) is ∙ new_fits spec tables deltas c.requires.fits all
-
-pub returns-clause-ascending : goal.returns-clause-ascending
-returns-clause-ascending c =
-    let tables = c.args.tables in
-    let deltas = c.args.deltas.now in
-    let is : c.in_ok-tables.tables ≡ changed_tables tables deltas = c.in_ok-tables.ensures ∙ ap (changed_tables tables) c.as_slice-3.ensures in
-    subst (AllByRecursion IsAscending) (sym is) (changed_ascend tables deltas)
-
-pub returns-clause-values : goal.returns-clause-values
-returns-clause-values c =
-    let tables = c.args.tables in
-    let deltas = c.args.deltas.now in
-    let is : c.in_ok-tables.tables ≡ changed_tables tables deltas = c.in_ok-tables.ensures ∙ ap (changed_tables tables) c.as_slice-3.ensures in
-    subst AreSpelledTables (sym is) (changed_spelled tables deltas c.requires.values c.requires.spelled)
+pub returns-clause-sound : goal.returns-clause-sound
+returns-clause-sound c =
+    let all : all_take c.args.stored.now (ordered_rows c.args.tables) c.args.deltas ≡ true = cc in
+    let new = c.in_ok-tables.tables in
+    let told : c.is_some.result ≡ false = search rules in
+    let full : is_some (position is_full new) ≡ false = sym (ap is_some (c.first_full.ensures ∙ ap (position is_full) c.as_slice-3.ensures)) ∙ sym c.is_some.ensures ∙ told in
+    sound_after c.args.plan.now c.args.stored.now c.args.tables c.args.deltas c.requires.stored c.requires.sound all new c.in_ok-tables.ensures c.requires.spelled full

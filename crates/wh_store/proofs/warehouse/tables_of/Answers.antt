@@ -1,10 +1,9 @@
-use Rattle.std.proofs.Common.{◌≡◌, ◌∙◌, ◌<◌, ◌+◌, ℕ, [], List, All, get_or, length, sym, ap, subst, arith}
+use Rattle.std.proofs.Common.{◌∙◌, ◌+◌, ℕ, [], List, All, get_or, length, sym, ap, subst, arith}
 use Rattle.std.proofs.lemmas.List.{length_push}
 use Rattle.wh_base.specs.declared.head.Head.{Head}
 use Rattle.wh_base.specs.Heads.{attrs_at}
 use Rattle.wh_base.specs.RowSet.{AreDistinct, SameRows, IsAscending}
 use Rattle.wh_plan.specs.declared.plan.Plan.{Plan}
-use Rattle.wh_plan.specs.Indexes.{indexes}
 use Rattle.wh_store.specs.Opening.{stored_heads, IsTableOf}
 use Rattle.wh_store.proofs.StoredLemmas.{item_of, sets_fit}
 use Rattle.wh_store.proofs.TableLemmas.{ascending_distinct, each_more}
