@@ -17,6 +17,3 @@ pub use frame::Frame;
 pub use laws::body_has_one_frame;
 pub use reading::read_frame;
 pub use writing::write_frame;
-
-#[cfg(test)]
-mod tests;

@@ -12,6 +12,3 @@ pub use change::{Change, Line, read_change};
 pub use dump::read_dump;
 pub use fault::{CsvCause, CsvFault};
 pub use laws::integers_are_tested;
-
-#[cfg(test)]
-mod tests;

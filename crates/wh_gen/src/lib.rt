@@ -9,6 +9,3 @@ mod rows;
 
 pub use files::{CaseFiles, change_names};
 pub use make::{Case, make_case};
-
-#[cfg(test)]
-mod tests;

@@ -5,6 +5,3 @@ mod joining;
 mod mark;
 
 pub use mark::always_empty;
-
-#[cfg(test)]
-mod tests;

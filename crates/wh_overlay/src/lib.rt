@@ -5,6 +5,3 @@ mod overlay;
 mod tables;
 
 pub use overlay::Overlay;
-
-#[cfg(test)]
-mod tests;

@@ -12,7 +12,7 @@ use crate::pieces::piece_expr;
 use crate::plan::Exprs;
 use crate::trees::{join_exprs, projected, selected, united};
 use std::alloc::Global;
-use wh_base::{Duplicate, Names, NoMemory, append_names, names_of, others};
+use wh_base::{Cond, Duplicate, Names, NoMemory, append_names, names_of, others};
 use wh_covers::{CoverList, Piece, PieceSource, Pieces, relation_at, view_at};
 use wh_expr::Expr;
 use wh_schema::Spec;
@@ -27,14 +27,29 @@ fn bases(alloc: Global, relations: &[u32]) -> Result<Vec<Expr>, NoMemory>
     Ok(exprs)
 }
 
+fn joined_bases(alloc: Global, relations: &[u32]) -> Result<Expr, NoMemory>
+    ensures { IfOk result (λ e. e ≡ join_exprs (map (λ i. expr.Base i) relations.now)) }
+{
+    let exprs = bases(alloc, relations)?;
+    join_exprs(alloc, exprs)
+}
+
+fn chosen(alloc: Global, cond: &Cond, relations: &[u32]) -> Result<Expr, NoMemory>
+    ensures { IfOk result (λ e. e ≡ expr.Select cond.now (join_exprs (map (λ i. expr.Base i) relations.now))) }
+{
+    let cond = cond.copy(alloc)?;
+    let all = joined_bases(alloc, relations)?;
+    selected(alloc, cond, all)
+}
+
 fn view_expr(alloc: Global, spec: &Spec, number: u32) -> Result<Expr, NoMemory>
     requires { number < length spec.now.views }
     ensures { IfOk result (λ e. e ≡ view_expr spec.now number) }
 {
     let view = view_at(spec, number);
-    let all = join_exprs(alloc, bases(alloc, view.relations.as_slice())?)?;
-    let chosen = selected(alloc, view.cond.copy(alloc)?, all)?;
-    projected(alloc, view.head.copy(alloc)?, chosen)
+    let head = view.head.copy(alloc)?;
+    let chosen = chosen(alloc, &view.cond, view.relations.as_slice())?;
+    projected(alloc, head, chosen)
 }
 
 /// The expression of each view.

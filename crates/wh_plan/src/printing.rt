@@ -1,12 +1,12 @@
 //! Prints plans.
-ghost use Rattle.std.specs.Prelude.{◌≡◌, ◌≤◌, ◌<◌, ◌+◌, ◌++◌, length, map, OnOk, OnErr, IfOk, decimal};
+ghost use Rattle.std.specs.Prelude.{◌≡◌, ◌≤◌, ◌<◌, ◌+◌, ◌++◌, length, map, OnOk, OnErr, IfOk, codes, decimal};
 ghost use Rattle.std.specs.List.{flat_map};
 ghost use Rattle.wh_base.specs.Lines.{line, separated_by};
 ghost use Rattle.wh_covers.specs.Covers.{IsNumbered};
 ghost use Rattle.wh_plan.specs.Held.{AreHeld};
 ghost use Rattle.wh_plan.specs.Plan.{IsPlan, relation_covers};
 ghost use Rattle.wh_plan.specs.PlanText.{order_line, piece_line, piece_lines, cover_line, inverse_line, empty_line, probes_line, relation_lines, plan_text};
-ghost use Rattle.wh_query_text.specs.Printed.{name_at as name_of, list_mark};
+ghost use Rattle.wh_query_text.specs.Printed.{name_at as name_of, list_mark, expr_text};
 ghost use Rattle.wh_schema.specs.Heads.{heads_of};
 ghost use Rattle.wh_schema.specs.Reconstruction.{order};
 ghost use Rattle.wh_schema.specs.Warehouse.{numbers};
@@ -58,6 +58,22 @@ fn put_order(out: &mut ByteText, heads: &Heads, relations: &Places) -> Result<()
     out.push(b'\n')
 }
 
+fn put_numbered(
+    alloc: Global,
+    out: &mut ByteText,
+    heads: &Heads,
+    number: u64,
+    e: &Expr,
+) -> Result<(), NoMemory>
+    ensures { OnOk result (out.new.bytes ≡ out.old.bytes ++ line (codes "piece " ++ decimal number ++ codes ": " ++ expr_text heads.now e.now)) }
+{
+    out.append(b"piece ")?;
+    put_number(out, number)?;
+    out.append(b": ")?;
+    print_expr(alloc, e, heads, out)?;
+    out.push(b'\n')
+}
+
 fn put_piece(
     alloc: Global,
     out: &mut ByteText,
@@ -71,12 +87,8 @@ fn put_piece(
     requires place { place < length pieces.now }
     ensures { OnOk result (out.new.bytes ≡ out.old.bytes ++ piece_line spec.now heads.now pieces.now place) }
 {
-    out.append(b"piece ")?;
-    put_number(out, place as u64 + 1)?;
-    out.append(b": ")?;
     let e = piece_expr(alloc, spec, &pieces[place])?;
-    print_expr(alloc, &e, heads, out)?;
-    out.push(b'\n')
+    put_numbered(alloc, out, heads, place as u64 + 1, &e)
 }
 
 fn put_pieces(

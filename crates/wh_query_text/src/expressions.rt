@@ -1,12 +1,13 @@
 //! Prints expressions.
-ghost use Rattle.std.specs.Prelude.{◌≡◌, ◌≤◌, ◌+◌, ◌++◌, ℕ, List, length, OnOk, OnErr};
+ghost use Rattle.std.specs.Prelude.{◌≡◌, ◌≤◌, ◌+◌, ◌++◌, ℕ, List, codes, length, OnOk, OnErr};
 ghost use Rattle.std.specs.List.{flat_map};
 ghost use Rattle.wh_base.specs.declared.head.Head.{Head};
 ghost use Rattle.wh_base.specs.Lines.{separated_by};
+ghost use Rattle.wh_grammar.specs.Printed.{printed};
 ghost use Rattle.wh_query_text.specs.Printed.{placed, name_at, list_mark, names_text, renaming_text, renamings_text, expr_shown, expr_text};
 
 use std::alloc::Global;
-use wh_base::{ByteText, Heads, Name, NoMemory, put_names};
+use wh_base::{ByteText, Cond, Heads, Name, NoMemory, put_names};
 use wh_expr::{Expr, Renaming};
 use wh_grammar::print_cond;
 
@@ -50,6 +51,30 @@ fn put_renamings(out: &mut ByteText, renamings: &[Renaming]) -> Result<(), NoMem
     put_more_renamings(out, rest)
 }
 
+fn put_selection(out: &mut ByteText, cond: &Cond) -> Result<(), NoMemory>
+    ensures { OnOk result (out.new.bytes ≡ out.old.bytes ++ codes "select (" ++ printed cond.now ++ codes ") ") }
+{
+    out.append(b"select (")?;
+    print_cond(out, cond)?;
+    out.append(b") ")
+}
+
+fn put_projection(out: &mut ByteText, names: &[Name]) -> Result<(), NoMemory>
+    ensures { OnOk result (out.new.bytes ≡ out.old.bytes ++ codes "project (" ++ names_text names.now ++ codes ") ") }
+{
+    out.append(b"project (")?;
+    put_names(out, LIST_MARK, names)?;
+    out.append(b") ")
+}
+
+fn put_rename(out: &mut ByteText, renamings: &[Renaming]) -> Result<(), NoMemory>
+    ensures { OnOk result (out.new.bytes ≡ out.old.bytes ++ codes "rename (" ++ renamings_text renamings.now ++ codes ") ") }
+{
+    out.append(b"rename (")?;
+    put_renamings(out, renamings)?;
+    out.append(b") ")
+}
+
 /// How tightly an expression binds.
 fn level(e: &Expr) -> u8
     ensures { (heads : List Head) → result ≡ (expr_shown heads e.now).level }
@@ -82,21 +107,15 @@ fn put_expr(out: &mut ByteText, e: &Expr, heads: &Heads) -> Result<(), NoMemory>
     match e {
         Expr::Base(number) => out.append(name_at(heads, *number)),
         Expr::Select(cond, child) => {
-            out.append(b"select (")?;
-            print_cond(out, cond)?;
-            out.append(b") ")?;
+            put_selection(out, cond)?;
             put_placed(out, 3, child.get(), heads)
         }
         Expr::Project(names, child) => {
-            out.append(b"project (")?;
-            put_names(out, LIST_MARK, names.as_slice())?;
-            out.append(b") ")?;
+            put_projection(out, names.as_slice())?;
             put_placed(out, 3, child.get(), heads)
         }
         Expr::Rename(renamings, child) => {
-            out.append(b"rename (")?;
-            put_renamings(out, renamings.as_slice())?;
-            out.append(b") ")?;
+            put_rename(out, renamings.as_slice())?;
             put_placed(out, 3, child.get(), heads)
         }
         Expr::Join(left, right) => {

@@ -15,6 +15,3 @@ pub use fault_line::put_query_fault;
 pub use parsing::{Query, answers_are_textual, answers_are_typed, parse_query};
 pub use raw::{Infix, Prefix, RawQuery};
 pub use reading::grammar_agrees;
-
-#[cfg(test)]
-mod tests;

@@ -1,12 +1,13 @@
-ghost use Rattle.std.specs.Prelude.{◌≡◌, ◌≢◌, length};
+ghost use Rattle.std.specs.Prelude.{◌≡◌, ◌≢◌, length, IfOk};
 ghost use Rattle.wh_grammar.specs.Grammar.{Reads};
+ghost use Rattle.wh_query_text.specs.declared.raw.RawQuery.TheVariants as raw;
 ghost use Rattle.wh_query_text.specs.Queries as spec;
 ghost use Rattle.wh_query_text.specs.QueryData.{QueriesAgree};
 
 use crate::raw::{Infix, Prefix, RawQuery};
 use sqlite_items::Boxed;
 use std::alloc::Global;
-use wh_base::{Cond, Names};
+use wh_base::{Cond, Names, NoMemory};
 use wh_expr::{Pairs, Renaming};
 use wh_grammar::{Cursor, Symbol, TextFault, cond};
 
@@ -119,6 +120,26 @@ fn sum_of(symbol: Symbol) -> Option<Infix>
     }
 }
 
+fn behind(alloc: Global, at: u64, prefix: Prefix, part: RawQuery) -> Result<RawQuery, NoMemory>
+    ensures { IfOk result (λ query. query ≡ raw.Behind at prefix part) }
+{
+    Ok(RawQuery::Behind(at, prefix, Boxed::new(alloc, part)?))
+}
+
+fn between(
+    alloc: Global,
+    at: u64,
+    word: Infix,
+    left: RawQuery,
+    right: RawQuery,
+) -> Result<RawQuery, NoMemory>
+    ensures { IfOk result (λ query. query ≡ raw.Between at word left right) }
+{
+    let left = Boxed::new(alloc, left)?;
+    let right = Boxed::new(alloc, right)?;
+    Ok(RawQuery::Between(at, word, left, right))
+}
+
 #[cycle(query)]
 fn behind_prefix(
     alloc: Global,
@@ -154,7 +175,7 @@ fn prefixed(alloc: Global, cursor: &mut Cursor<'_>, depth: usize) -> Result<RawQ
     let at = cursor.place() as u64;
     let prefix = before(alloc, cursor, depth)?;
     let part = behind_prefix(alloc, cursor, depth)?;
-    Ok(RawQuery::Behind(at, prefix, Boxed::new(alloc, part)?))
+    Ok(behind(alloc, at, prefix, part)?)
 }
 
 #[cycle(query)]
@@ -184,12 +205,7 @@ fn term(alloc: Global, cursor: &mut Cursor<'_>, depth: usize) -> Result<RawQuery
         let at = cursor.place() as u64;
         cursor.advance();
         let right = factor(alloc, cursor, depth)?;
-        left = RawQuery::Between(
-            at,
-            word,
-            Boxed::new(alloc, left)?,
-            Boxed::new(alloc, right)?,
-        );
+        left = between(alloc, at, word, left, right)?;
     }
     Ok(left)
 }
@@ -205,12 +221,7 @@ pub fn query(alloc: Global, cursor: &mut Cursor<'_>, depth: usize) -> Result<Raw
         let at = cursor.place() as u64;
         cursor.advance();
         let right = term(alloc, cursor, depth)?;
-        left = RawQuery::Between(
-            at,
-            word,
-            Boxed::new(alloc, left)?,
-            Boxed::new(alloc, right)?,
-        );
+        left = between(alloc, at, word, left, right)?;
     }
     Ok(left)
 }

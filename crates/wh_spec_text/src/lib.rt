@@ -12,6 +12,3 @@ pub use fault_line::put_spec_fault;
 pub use parsing::{parse_raw, parse_spec};
 pub use printing::{answers_are_textual, print_spec, reads_printed};
 pub use reading::grammar_agrees;
-
-#[cfg(test)]
-mod tests;

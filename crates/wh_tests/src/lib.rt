@@ -8,4 +8,8 @@ mod commit_tests;
 #[cfg(test)]
 mod look_up_tests;
 #[cfg(test)]
+mod mark_tests;
+#[cfg(test)]
 mod open_tests;
+#[cfg(test)]
+mod overlay_tests;

@@ -1,10 +1,8 @@
 // Reports and audits of a store, over devices in memory.
-use crate::store_tests::{
-    End, Fails, LOAD_B, LOADED_B, NONE, Row, Store, Story, printed, tell_all, told,
-};
-use crate::tests::{EMP, FILES_A, SALE, SPEC_B, USAGE, show};
+use crate::runs::{Case, End, Held, Store, answer, show};
+use crate::store_tests::{Fails, LOAD_B, LOADED_B, NONE, Row, Story, are_told, rows_end, store_of};
+use crate::tests::{EMP, FILES_A, SALE, SPEC_B, USAGE};
 use std::alloc::Global;
-use std::process::Abort;
 use std::test::Fail;
 use wh_base::NoMemory;
 use wh_command::Status;
@@ -12,7 +10,7 @@ use wh_steps::{NoLedger, Steps};
 
 const OLDER: &[u8] = b"age,clerk\n23,Mary\n26,John\n32,Paula\n";
 
-const HELD: &[(&str, &[u8])] = &[
+const HELD: Held<'static> = &[
     ("spec_b.txt", SPEC_B),
     ("dir_a/Emp.csv", EMP),
     ("dir_a/Sale.csv", SALE),
@@ -20,7 +18,7 @@ const HELD: &[(&str, &[u8])] = &[
     ("change", b"-,Emp,John,25\n+,Emp,John,26\n"),
 ];
 
-const BAD_HEADER: &[(&str, &[u8])] = &[
+const BAD_HEADER: Held<'static> = &[
     ("spec_b.txt", SPEC_B),
     ("dir_a/Emp.csv", EMP),
     ("dir_a/Sale.csv", SALE),
@@ -146,7 +144,8 @@ const STORIES: &[Story<'static>] = &[
 #[test]
 fn stores_are_audited(rt: HostRuntime) -> Result<(), Fail> {
     let mut counts = Steps::new(&rt, NoLedger);
-    Ok(tell_all(&rt, rt.alloc(), &mut counts, STORIES)?)
+    assert!(rt; are_told(rt.alloc(), &mut counts, STORIES)?);
+    Ok(())
 }
 
 const STORE_B: Story<'static> = Story {
@@ -164,40 +163,73 @@ struct Dump<'a> {
     audit: &'a [&'a str],
     refresh: &'a [&'a str],
     dump: &'a [&'a str],
-    held: &'a [(&'a str, &'a [u8])],
+    held: Held<'a>,
     change: &'a [u8],
     rows: &'a [u8],
 }
 
+// Whether a run ends with Ok and prints these bytes.
+fn prints(
+    alloc: Global,
+    counts: &mut Steps<NoLedger>,
+    store: &mut Store,
+    case: &Case<'_>,
+    told: &[u8],
+) -> Result<bool, NoMemory> {
+    let (status, text) = answer(alloc, counts, store, case)?;
+    Ok(status == Status::Ok && text.as_bytes() == told)
+}
+
+fn is_ok(
+    alloc: Global,
+    counts: &mut Steps<NoLedger>,
+    store: &mut Store,
+    case: &Case<'_>,
+) -> Result<bool, NoMemory> {
+    let (status, _text) = answer(alloc, counts, store, case)?;
+    Ok(status == Status::Ok)
+}
+
 // Makes the change that an audit prints, and audits again.
-fn audits_come_true(
-    rt: &impl Abort,
+fn audit_comes_true(
     alloc: Global,
     counts: &mut Steps<NoLedger>,
     store: &mut Store,
     dump: &Dump<'_>,
-) -> Result<(), NoMemory> {
-    let change = printed(rt, alloc, counts, store, &show(dump.audit, dump.held))?;
-    assert!(rt; change.as_bytes() == dump.change);
-    printed(rt, alloc, counts, store, &show(dump.refresh, dump.held))?;
-    let again = printed(rt, alloc, counts, store, &show(dump.audit, dump.held))?;
-    assert!(rt; again.as_bytes().is_empty());
-    let rows = printed(rt, alloc, counts, store, &show(dump.dump, dump.held))?;
-    assert!(rt; rows.as_bytes() == dump.rows);
-    Ok(())
+) -> Result<bool, NoMemory> {
+    let audit = show(dump.audit, dump.held);
+    Ok(
+        prints(alloc, counts, store, &audit, dump.change)?
+            && is_ok(alloc, counts, store, &show(dump.refresh, dump.held))?
+            && prints(alloc, counts, store, &audit, b"")?
+            && prints(alloc, counts, store, &show(dump.dump, dump.held), dump.rows)?,
+    )
 }
 
-fn all_come_true(
-    rt: &impl Abort,
+fn audits_come_true(
     alloc: Global,
     counts: &mut Steps<NoLedger>,
-    dumps: &[Dump<'_>],
-) -> Result<(), NoMemory> {
-    let mut store = told(rt, alloc, counts, 0, &STORE_B)?;
-    for dump in dumps {
-        audits_come_true(rt, alloc, counts, &mut store, dump)?;
+    store: &mut Store,
+) -> Result<bool, NoMemory> {
+    for dump in DUMPS {
+        if !audit_comes_true(alloc, counts, store, dump)? {
+            return Ok(false);
+        }
     }
-    Ok(())
+    Ok(true)
+}
+
+fn loads_and_comes_true(
+    alloc: Global,
+    counts: &mut Steps<NoLedger>,
+    store: &mut Store,
+) -> Result<bool, NoMemory> {
+    Ok(rows_end(alloc, counts, store, &STORE_B)? && audits_come_true(alloc, counts, store)?)
+}
+
+fn all_come_true(alloc: Global, counts: &mut Steps<NoLedger>) -> Result<bool, NoMemory> {
+    let mut store = store_of(alloc, &STORE_B)?;
+    loads_and_comes_true(alloc, counts, &mut store)
 }
 
 const REFRESH: &[&str] = &["refresh", "change"];
@@ -273,5 +305,6 @@ const DUMPS: &[Dump<'static>] = &[
 #[test]
 fn an_audit_is_the_change_to_make(rt: HostRuntime) -> Result<(), Fail> {
     let mut counts = Steps::new(&rt, NoLedger);
-    Ok(all_come_true(&rt, rt.alloc(), &mut counts, DUMPS)?)
+    assert!(rt; all_come_true(rt.alloc(), &mut counts)?);
+    Ok(())
 }

@@ -14,6 +14,8 @@ mod refresh_fault_tests;
 mod refresh_tests;
 mod run;
 #[cfg(test)]
+mod runs;
+#[cfg(test)]
 mod store_tests;
 #[cfg(test)]
 mod tests;

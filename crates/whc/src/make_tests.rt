@@ -1,10 +1,9 @@
 // Generated cases over stores in memory.
-use crate::store_tests::{End, NONE, Row, Store, Story, answer, crashed, ends, tell_all, told};
-use crate::tests::show;
+use crate::runs::{End, Store, answer, ends, show};
+use crate::store_tests::{NONE, Row, Story, are_told, crashed, empty_store};
 use std::alloc::Global;
-use std::process::Abort;
 use std::test::Fail;
-use wh_base::NoMemory;
+use wh_base::{ByteText, NoMemory};
 use wh_command::Status;
 use wh_steps::{NoLedger, Steps};
 
@@ -111,7 +110,8 @@ const CASES: &[Story<'static>] = &[
 #[test]
 fn cases_are_made(rt: HostRuntime) -> Result<(), Fail> {
     let mut counts = Steps::new(&rt, NoLedger);
-    Ok(tell_all(&rt, rt.alloc(), &mut counts, CASES)?)
+    assert!(rt; are_told(rt.alloc(), &mut counts, CASES)?);
+    Ok(())
 }
 
 const OTHER_WORDS: &[Story<'static>] = &[Story {
@@ -137,7 +137,8 @@ const OTHER_WORDS: &[Story<'static>] = &[Story {
 #[test]
 fn other_words_make_nothing(rt: HostRuntime) -> Result<(), Fail> {
     let mut counts = Steps::new(&rt, NoLedger);
-    Ok(tell_all(&rt, rt.alloc(), &mut counts, OTHER_WORDS)?)
+    assert!(rt; are_told(rt.alloc(), &mut counts, OTHER_WORDS)?);
+    Ok(())
 }
 
 // What is told of the store of `make 0 1` after so many of its changes.
@@ -152,61 +153,82 @@ relation Dept 1\nrelation Emp 1\nrelation Task {tasks}\nstored {}, sources {}\n"
     )
 }
 
-// Whether a store is empty, or stands after some of the changes.
-fn is_reached(
-    rt: &impl Abort,
-    alloc: Global,
-    counts: &mut Steps<NoLedger>,
-    store: &mut Store,
-) -> Result<bool, NoMemory> {
-    let (status, text) = answer(rt, alloc, counts, store, &show(&["report"], &[]))?;
-    if status == Status::NotLoaded {
-        return Ok(text.len() == 0);
-    }
+fn is_report_after(alloc: Global, text: &ByteText, changes: u8) -> Result<bool, NoMemory> {
+    let report = report_after(alloc, changes)?;
+    Ok(text.as_bytes() == report.as_bytes())
+}
+
+fn is_report(alloc: Global, text: &ByteText) -> Result<bool, NoMemory> {
     for changes in 0..10 {
-        if text.as_bytes() == report_after(alloc, changes)?.as_bytes() {
-            return Ok(status == Status::Ok);
+        if is_report_after(alloc, text, changes)? {
+            return Ok(true);
         }
     }
     Ok(false)
 }
 
-// A store in which a case was not made to its end, since its first disk fails from a call on.
-fn failed_case(
-    rt: &impl Abort,
-    alloc: Global,
-    counts: &mut Steps<NoLedger>,
-    fails: &[u64],
-) -> Result<Store, NoMemory> {
-    let story = Story {
-        first: b"",
-        second: b"",
-        disk_fails: fails,
-        held: &[],
-        rows: &[],
-        left: &[],
-    };
-    let mut store = told(rt, alloc, counts, 0, &story)?;
-    let whole = End(Status::Ok, MADE_0_1, "");
-    let is_whole = ends(rt, alloc, counts, &mut store, &show(MAKE_0_1, &[]), &whole)?;
-    assert!(rt; !is_whole);
-    Ok(store)
+fn is_answer(alloc: Global, status: Status, text: &ByteText) -> Result<bool, NoMemory> {
+    match status {
+        Status::NotLoaded => Ok(text.len() == 0),
+        Status::Ok => is_report(alloc, text),
+        _ => Ok(false),
+    }
 }
 
+// Whether a store is empty, or stands after some of the changes.
+fn is_reached(
+    alloc: Global,
+    counts: &mut Steps<NoLedger>,
+    store: &mut Store,
+) -> Result<bool, NoMemory> {
+    let (status, text) = answer(alloc, counts, store, &show(&["report"], &[]))?;
+    is_answer(alloc, status, &text)
+}
+
+fn is_reached_after_crash(
+    alloc: Global,
+    counts: &mut Steps<NoLedger>,
+    failing: &Store,
+    fill: u8,
+    torn: bool,
+) -> Result<bool, NoMemory> {
+    let mut left = crashed(alloc, failing, fill, torn)?;
+    is_reached(alloc, counts, &mut left)
+}
+
+// What fills the places that were pending in a crash, and whether it was a torn one.
+const CRASHES: &[(u8, bool)] = &[(0, true), (1, true), (255, true), (0, false)];
+
 // Whether all that a crash may leave of a store is reached.
-fn survives(
-    rt: &impl Abort,
+fn all_are_reached(
     alloc: Global,
     counts: &mut Steps<NoLedger>,
     failing: &Store,
 ) -> Result<bool, NoMemory> {
-    for (fill, torn) in [(0, true), (1, true), (255, true), (0, false)] {
-        let mut left = crashed(alloc, failing, fill, torn)?;
-        if !is_reached(rt, alloc, counts, &mut left)? {
+    for (fill, torn) in CRASHES {
+        if !is_reached_after_crash(alloc, counts, failing, *fill, *torn)? {
             return Ok(false);
         }
     }
     Ok(true)
+}
+
+// Whether a case is not made to its end on a store of which calls fail, and what a crash leaves is reached.
+fn survives_on(
+    alloc: Global,
+    counts: &mut Steps<NoLedger>,
+    store: &mut Store,
+) -> Result<bool, NoMemory> {
+    let whole = End(Status::Ok, MADE_0_1, "");
+    Ok(
+        !ends(alloc, counts, store, &show(MAKE_0_1, &[]), &whole)?
+            && all_are_reached(alloc, counts, store)?,
+    )
+}
+
+fn survives(alloc: Global, counts: &mut Steps<NoLedger>, fails: &[u64]) -> Result<bool, NoMemory> {
+    let mut store = empty_store(alloc, fails, &[])?;
+    survives_on(alloc, counts, &mut store)
 }
 
 // The numbers of the calls of the first disk: eleven of the load, three to open it, four for each of nine changes, and three
@@ -217,16 +239,18 @@ const CALLS: &[u64] = &[
     51, 52, 53,
 ];
 
+fn survives_each(alloc: Global, counts: &mut Steps<NoLedger>) -> Result<bool, NoMemory> {
+    for passed in 0..CALLS.len() {
+        if !survives(alloc, counts, &CALLS[passed..])? {
+            return Ok(false);
+        }
+    }
+    Ok(true)
+}
+
 #[test]
 fn a_crash_leaves_the_first_changes_of_a_case(rt: HostRuntime) -> Result<(), Fail> {
-    let alloc = rt.alloc();
-    let mut steps = Steps::new(&rt, NoLedger);
-    for passed in 0..CALLS.len() {
-        let failing = failed_case(&rt, alloc, &mut steps, &CALLS[passed..])?;
-        assert!(rt;
-            survives(&rt, alloc, &mut steps, &failing)?,
-            "after {passed} calls"
-        );
-    }
+    let mut counts = Steps::new(&rt, NoLedger);
+    assert!(rt; survives_each(rt.alloc(), &mut counts)?);
     Ok(())
 }

@@ -1,8 +1,8 @@
 // Queries over a store, over devices in memory.
-use crate::store_tests::{End, LOAD_B, LOADED_B, NONE, Row, Store, Story, ends, tell_all, told};
-use crate::tests::{FILES_A, show};
+use crate::runs::{End, Store, ends, show};
+use crate::store_tests::{LOAD_B, LOADED_B, NONE, Row, Story, are_told, rows_end, store_of};
+use crate::tests::FILES_A;
 use std::alloc::Global;
-use std::process::Abort;
 use std::test::Fail;
 use wh_base::NoMemory;
 use wh_command::Status;
@@ -102,46 +102,75 @@ const ANSWERS: &[Story<'static>] = &[Story {
 #[test]
 fn queries_are_answered(rt: HostRuntime) -> Result<(), Fail> {
     let mut counts = Steps::new(&rt, NoLedger);
-    Ok(tell_all(&rt, rt.alloc(), &mut counts, ANSWERS)?)
+    assert!(rt; are_told(rt.alloc(), &mut counts, ANSWERS)?);
+    Ok(())
 }
 
 // A query in which a piece is repeated, and what it comes to.
 #[derive(Clone, Copy)]
 struct Query<'a>(&'a str, &'a str, usize, &'a str, End<'a>);
 
-// Whether the query comes to its end over the store.
+fn append_times(text: &mut String, piece: &str, count: usize) -> Result<(), NoMemory> {
+    for _ in 0..count {
+        text.push_str(piece)?;
+    }
+    Ok(())
+}
+
+fn text_of(alloc: Global, query: &Query<'_>) -> Result<String, NoMemory> {
+    let Query(before, piece, count, after, _end) = query;
+    let mut text = String::from_str(alloc, before)?;
+    append_times(&mut text, piece, *count)?;
+    text.push_str(after)?;
+    Ok(text)
+}
+
+// Whether a query's text comes to this end over the store.
+fn text_ends(
+    alloc: Global,
+    counts: &mut Steps<NoLedger>,
+    store: &mut Store,
+    text: &str,
+    end: &End<'_>,
+) -> Result<bool, NoMemory> {
+    let words = ["query", text];
+    ends(alloc, counts, store, &show(&words, &[]), end)
+}
+
 fn is_told(
-    rt: &impl Abort,
     alloc: Global,
     counts: &mut Steps<NoLedger>,
     store: &mut Store,
     query: &Query<'_>,
 ) -> Result<bool, NoMemory> {
-    let Query(before, piece, count, after, end) = query;
-    let mut text = String::from_str(alloc, before)?;
-    for _ in 0..*count {
-        text.push_str(piece)?;
-    }
-    text.push_str(after)?;
-    let words = ["query", text.as_str()];
-    ends(rt, alloc, counts, store, &show(&words, &[]), end)
+    let text = text_of(alloc, query)?;
+    text_ends(alloc, counts, store, text.as_str(), &query.4)
 }
 
-fn all_told(
-    rt: &impl Abort,
+fn queries_are_told(
     alloc: Global,
     counts: &mut Steps<NoLedger>,
-    story: &Story<'_>,
-    queries: &[Query<'_>],
-) -> Result<(), NoMemory> {
-    let mut store = told(rt, alloc, counts, 0, story)?;
-    for (number, query) in queries.iter().enumerate() {
-        assert!(rt;
-            is_told(rt, alloc, counts, &mut store, query)?,
-            "query {number}"
-        );
+    store: &mut Store,
+) -> Result<bool, NoMemory> {
+    for query in QUERIES {
+        if !is_told(alloc, counts, store, query)? {
+            return Ok(false);
+        }
     }
-    Ok(())
+    Ok(true)
+}
+
+fn loads_and_tells(
+    alloc: Global,
+    counts: &mut Steps<NoLedger>,
+    store: &mut Store,
+) -> Result<bool, NoMemory> {
+    Ok(rows_end(alloc, counts, store, &STORE_RS)? && queries_are_told(alloc, counts, store)?)
+}
+
+fn all_are_told(alloc: Global, counts: &mut Steps<NoLedger>) -> Result<bool, NoMemory> {
+    let mut store = store_of(alloc, &STORE_RS)?;
+    loads_and_tells(alloc, counts, &mut store)
 }
 
 const STORE_RS: Story<'static> = Story {
@@ -303,5 +332,6 @@ const QUERIES: &[Query<'static>] = &[
 #[test]
 fn queries_are_refused_at_their_place(rt: HostRuntime) -> Result<(), Fail> {
     let mut counts = Steps::new(&rt, NoLedger);
-    Ok(all_told(&rt, rt.alloc(), &mut counts, &STORE_RS, QUERIES)?)
+    assert!(rt; all_are_told(rt.alloc(), &mut counts)?);
+    Ok(())
 }

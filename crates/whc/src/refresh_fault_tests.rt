@@ -1,12 +1,11 @@
 // One failing call of each device, at each number, in a run of three change files of which the second is refused.
 use crate::refresh_tests::{
-    AT_FIRST, CALLS, EMPLOYEES, HELD_B, LOADED, SALES, SOLD_BY_ZOE, THREE, TOOK_TWO, WITH_ZOE,
-    is_reached,
+    AT_FIRST, CALLS, EMPLOYEES, HELD_B, LOADED, SALES, SOLD_BY_ZOE, THREE, WITH_ZOE, is_reached,
+    is_whole,
 };
-use crate::store_tests::{End, Fails, NONE, Row, Store, Story, empty_store, ends, tell_all};
-use crate::tests::show;
+use crate::runs::{End, Store, ends, show};
+use crate::store_tests::{Fails, LOAD_B, NONE, Row, Story, are_told, empty_store};
 use std::alloc::Global;
-use std::process::Abort;
 use std::test::Fail;
 use wh_base::NoMemory;
 use wh_command::Status;
@@ -105,51 +104,72 @@ const FAULTS: &[Story<'static>] = &[
 #[test]
 fn reads_and_writes_fail(rt: HostRuntime) -> Result<(), Fail> {
     let mut counts = Steps::new(&rt, NoLedger);
-    Ok(tell_all(&rt, rt.alloc(), &mut counts, FAULTS)?)
+    assert!(rt; are_told(rt.alloc(), &mut counts, FAULTS)?);
+    Ok(())
 }
 
-// Whether a store of which a disk failed in the run, and which is opened again, is one after some first changes.
-fn recovers(
-    rt: &impl Abort,
+fn is_loaded(
     alloc: Global,
     counts: &mut Steps<NoLedger>,
     store: &mut Store,
 ) -> Result<bool, NoMemory> {
-    let Row(load, _, loaded) = LOADED;
-    let is_loaded = ends(rt, alloc, counts, store, &show(load, HELD_B), &loaded)?;
-    let is_whole = ends(rt, alloc, counts, store, &show(THREE, HELD_B), &TOOK_TWO)?;
-    Ok(is_loaded && !is_whole && is_reached(rt, alloc, counts, store)?)
+    ends(alloc, counts, store, &show(LOAD_B, HELD_B), &LOADED.2)
+}
+
+// Whether a store of which a disk failed in the run, and which is opened again, is one after some first changes.
+fn recovers(
+    alloc: Global,
+    counts: &mut Steps<NoLedger>,
+    store: &mut Store,
+) -> Result<bool, NoMemory> {
+    Ok(
+        is_loaded(alloc, counts, store)?
+            && !is_whole(alloc, counts, store)?
+            && is_reached(alloc, counts, store)?,
+    )
 }
 
 fn recovers_from(
-    rt: &impl Abort,
     alloc: Global,
     counts: &mut Steps<NoLedger>,
     first_fails: &[u64],
     second_fails: &[u64],
 ) -> Result<bool, NoMemory> {
     let mut store = empty_store(alloc, first_fails, second_fails)?;
-    recovers(rt, alloc, counts, &mut store)
+    recovers(alloc, counts, &mut store)
 }
 
 // The numbers of the calls of the second disk behind those of the load: it is only opened.
 const SECOND_CALLS: &[u64] = &[5, 6, 7];
 
-#[test]
-fn each_call_of_a_disk_fails(rt: HostRuntime) -> Result<(), Fail> {
-    let alloc = rt.alloc();
-    let mut counts = Steps::new(&rt, NoLedger);
+fn recovers_from_first(alloc: Global, counts: &mut Steps<NoLedger>) -> Result<bool, NoMemory> {
     for call in CALLS {
-        assert!(rt;
-            recovers_from(&rt, alloc, &mut counts, &[*call], &[])?,
-            "first: {call}"
-        );
+        if !recovers_from(alloc, counts, &[*call], &[])? {
+            return Ok(false);
+        }
     }
+    Ok(true)
+}
+
+fn recovers_from_second(alloc: Global, counts: &mut Steps<NoLedger>) -> Result<bool, NoMemory> {
     for call in SECOND_CALLS {
-        assert!(rt;
-            recovers_from(&rt, alloc, &mut counts, &[], &[*call])?,
-            "second: {call}"
-        );
+        if !recovers_from(alloc, counts, &[], &[*call])? {
+            return Ok(false);
+        }
     }
+    Ok(true)
+}
+
+#[test]
+fn each_call_of_the_first_disk_fails(rt: HostRuntime) -> Result<(), Fail> {
+    let mut counts = Steps::new(&rt, NoLedger);
+    assert!(rt; recovers_from_first(rt.alloc(), &mut counts)?);
+    Ok(())
+}
+
+#[test]
+fn each_call_of_the_second_disk_fails(rt: HostRuntime) -> Result<(), Fail> {
+    let mut counts = Steps::new(&rt, NoLedger);
+    assert!(rt; recovers_from_second(rt.alloc(), &mut counts)?);
     Ok(())
 }

@@ -1,17 +1,17 @@
 // Change files over a store, over devices in memory.
+use crate::runs::{End, Held, Store, ends, show};
 use crate::store_tests::{
-    End, Fails, LOAD_B, LOADED_B, NONE, Row, Store, Story, crashed, ends, tell_all, told,
+    CRASHES, Fails, LOAD_B, LOADED_B, NONE, Row, Story, are_told, crashed, rows_end, store_of,
 };
-use crate::tests::{EMP, SALE, SPEC_B, USAGE, show};
+use crate::tests::{EMP, SALE, SPEC_B, USAGE};
 use std::alloc::Global;
-use std::process::Abort;
 use std::test::Fail;
 use wh_base::NoMemory;
 use wh_command::Status;
 use wh_steps::{NoLedger, Steps};
 
 // The dumps of a store of sales, and change files.
-pub(crate) const HELD_B: &[(&str, &[u8])] = &[
+pub(crate) const HELD_B: Held<'static> = &[
     ("spec_b.txt", SPEC_B),
     ("dir_a/Emp.csv", EMP),
     ("dir_a/Sale.csv", SALE),
@@ -175,10 +175,11 @@ const CHANGES: &[Story<'static>] = &[
 #[test]
 fn changes_are_made_or_refused(rt: HostRuntime) -> Result<(), Fail> {
     let mut counts = Steps::new(&rt, NoLedger);
-    Ok(tell_all(&rt, rt.alloc(), &mut counts, CHANGES)?)
+    assert!(rt; are_told(rt.alloc(), &mut counts, CHANGES)?);
+    Ok(())
 }
 
-const HELD_ITEMS: &[(&str, &[u8])] = &[
+const HELD_ITEMS: Held<'static> = &[
     (
         "s",
         b"relation Item(sku int, cat int, price int) key (sku); relation Line(line int, sku int, cat int) key (line);
@@ -212,7 +213,7 @@ view Prices(sku, price) = Item;\n\
 \x03\x01\x00\x00\x00\x00\x00\x00\x00\x07\x01\x00\x00\x00\x00\x00\x00\x00\x01\x01\x00\x00\x00\x00\x00\x00\x00\x0a\
 \x00\x00\x00\x00\x00";
 
-const HELD_PICKS: &[(&str, &[u8])] = &[
+const HELD_PICKS: Held<'static> = &[
     (
         "s",
         b"relation Item(sku int, cat int) key (sku); relation Pick(pick int, cat int) key (pick);
@@ -223,7 +224,7 @@ inclusion Pick(cat) in Item(cat);",
     ("pick", b"+,Pick,1,9\n"),
 ];
 
-const HELD_AGES: &[(&str, &[u8])] = &[
+const HELD_AGES: Held<'static> = &[
     (
         "s",
         b"relation Emp(clerk text, age int) key (clerk); view Ages(age) = Emp;",
@@ -368,10 +369,11 @@ const STORED: &[Story<'static>] = &[
 #[test]
 fn changes_are_stored(rt: HostRuntime) -> Result<(), Fail> {
     let mut counts = Steps::new(&rt, NoLedger);
-    Ok(tell_all(&rt, rt.alloc(), &mut counts, STORED)?)
+    assert!(rt; are_told(rt.alloc(), &mut counts, STORED)?);
+    Ok(())
 }
 
-const HELD_R: &[(&str, &[u8])] = &[
+const HELD_R: Held<'static> = &[
     ("r", b"relation R(k int) key (k);"),
     ("d/R.csv", b"k\n"),
     ("five", b"+,R,5\n"),
@@ -527,7 +529,8 @@ const FRAMES: &[Story<'static>] = &[
 #[test]
 fn frames_are_added(rt: HostRuntime) -> Result<(), Fail> {
     let mut counts = Steps::new(&rt, NoLedger);
-    Ok(tell_all(&rt, rt.alloc(), &mut counts, FRAMES)?)
+    assert!(rt; are_told(rt.alloc(), &mut counts, FRAMES)?);
+    Ok(())
 }
 
 pub(crate) const WITH_ZOE: End<'static> = End(
@@ -666,7 +669,8 @@ nix: no file\n",
 #[test]
 fn files_are_taken_in_their_order(rt: HostRuntime) -> Result<(), Fail> {
     let mut counts = Steps::new(&rt, NoLedger);
-    Ok(tell_all(&rt, rt.alloc(), &mut counts, RUNS)?)
+    assert!(rt; are_told(rt.alloc(), &mut counts, RUNS)?);
+    Ok(())
 }
 
 pub(crate) const AT_FIRST: End<'static> = End(
@@ -685,88 +689,118 @@ const STATES: &[(End<'static>, End<'static>)] = &[
 ];
 
 fn is_state(
-    rt: &impl Abort,
     alloc: Global,
     counts: &mut Steps<NoLedger>,
     store: &mut Store,
     state: &(End<'_>, End<'_>),
 ) -> Result<bool, NoMemory> {
-    let is_first = ends(rt, alloc, counts, store, &show(EMPLOYEES, &[]), &state.0)?;
-    let is_second = ends(rt, alloc, counts, store, &show(SALES, &[]), &state.1)?;
+    let is_first = ends(alloc, counts, store, &show(EMPLOYEES, &[]), &state.0)?;
+    let is_second = ends(alloc, counts, store, &show(SALES, &[]), &state.1)?;
     Ok(is_first && is_second)
 }
 
 pub(crate) fn is_reached(
-    rt: &impl Abort,
     alloc: Global,
     counts: &mut Steps<NoLedger>,
     store: &mut Store,
 ) -> Result<bool, NoMemory> {
     for state in STATES {
-        if is_state(rt, alloc, counts, store, state)? {
+        if is_state(alloc, counts, store, state)? {
             return Ok(true);
         }
     }
     Ok(false)
 }
 
-// A loaded store in which a run of three change files failed since its first disk fails from a call on.
-fn failed_run(
-    rt: &impl Abort,
-    alloc: Global,
-    counts: &mut Steps<NoLedger>,
-    fails: &[u64],
-) -> Result<Store, NoMemory> {
-    let story = Story {
+const LOADED_ALONE: &[Row<'static>] = &[LOADED];
+
+// A loaded store whose first disk fails from a call on.
+fn failing<'a>(fails: &'a [u64]) -> Story<'a> {
+    Story {
         first: b"",
         second: b"",
         disk_fails: fails,
         held: HELD_B,
-        rows: &[LOADED],
+        rows: LOADED_ALONE,
         left: &[],
-    };
-    let mut store = told(rt, alloc, counts, 0, &story)?;
-    let is_whole = ends(
-        rt,
-        alloc,
-        counts,
-        &mut store,
-        &show(THREE, HELD_B),
-        &TOOK_TWO,
-    )?;
-    assert!(rt; !is_whole);
-    Ok(store)
+    }
 }
 
-fn survives(
-    rt: &impl Abort,
+// Whether a run of three change files comes to its end over a store.
+pub(crate) fn is_whole(
     alloc: Global,
     counts: &mut Steps<NoLedger>,
-    fails: &[u64],
+    store: &mut Store,
+) -> Result<bool, NoMemory> {
+    ends(alloc, counts, store, &show(THREE, HELD_B), &TOOK_TWO)
+}
+
+fn is_reached_after_crash(
+    alloc: Global,
+    counts: &mut Steps<NoLedger>,
+    store: &Store,
     fill: u8,
     torn: bool,
 ) -> Result<bool, NoMemory> {
-    let failing = failed_run(rt, alloc, counts, fails)?;
-    let mut left = crashed(alloc, &failing, fill, torn)?;
-    is_reached(rt, alloc, counts, &mut left)
+    let mut left = crashed(alloc, store, fill, torn)?;
+    is_reached(alloc, counts, &mut left)
+}
+
+// Whether the run fails on the store of a story, and what a crash leaves is reached.
+fn survives_on(
+    alloc: Global,
+    counts: &mut Steps<NoLedger>,
+    store: &mut Store,
+    story: &Story<'_>,
+    fill: u8,
+    torn: bool,
+) -> Result<bool, NoMemory> {
+    Ok(
+        rows_end(alloc, counts, store, story)?
+            && !is_whole(alloc, counts, store)?
+            && is_reached_after_crash(alloc, counts, store, fill, torn)?,
+    )
+}
+
+fn survives(
+    alloc: Global,
+    counts: &mut Steps<NoLedger>,
+    story: &Story<'_>,
+    fill: u8,
+    torn: bool,
+) -> Result<bool, NoMemory> {
+    let mut store = store_of(alloc, story)?;
+    survives_on(alloc, counts, &mut store, story, fill, torn)
 }
 
 // The numbers of the calls of the first disk behind those of the load: three to open it, and four for each change.
 pub(crate) const CALLS: &[u64] = &[12, 13, 14, 15, 16, 17, 18, 19, 20, 21, 22];
 
-#[test]
-fn a_crash_leaves_the_first_changes(rt: HostRuntime) -> Result<(), Fail> {
-    let alloc = rt.alloc();
-    let mut steps = Steps::new(&rt, NoLedger);
-    for passed in 0..CALLS.len() {
-        for fill in [0, 1, 255] {
-            for torn in [true, false] {
-                assert!(rt;
-                    survives(&rt, alloc, &mut steps, &CALLS[passed..], fill, torn)?,
-                    "after {passed} calls"
-                );
-            }
+fn survives_all(
+    alloc: Global,
+    counts: &mut Steps<NoLedger>,
+    story: &Story<'_>,
+) -> Result<bool, NoMemory> {
+    for (fill, torn) in CRASHES {
+        if !survives(alloc, counts, story, *fill, *torn)? {
+            return Ok(false);
         }
     }
+    Ok(true)
+}
+
+fn survives_each(alloc: Global, counts: &mut Steps<NoLedger>) -> Result<bool, NoMemory> {
+    for passed in 0..CALLS.len() {
+        if !survives_all(alloc, counts, &failing(&CALLS[passed..]))? {
+            return Ok(false);
+        }
+    }
+    Ok(true)
+}
+
+#[test]
+fn a_crash_leaves_the_first_changes(rt: HostRuntime) -> Result<(), Fail> {
+    let mut counts = Steps::new(&rt, NoLedger);
+    assert!(rt; survives_each(rt.alloc(), &mut counts)?);
     Ok(())
 }

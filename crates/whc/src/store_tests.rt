@@ -1,17 +1,11 @@
 // The commands on a store, over devices in memory: stories of runs, and crashes.
-use crate::run::run;
-use crate::tests::{Case, FILES_A, files, numbers, show};
+use crate::runs::{Case, End, Held, Store, disk, ends, show};
+use crate::tests::FILES_A;
 use std::alloc::Global;
-use std::process::Abort;
 use std::test::Fail;
-use wh_base::{ByteText, NoMemory};
+use wh_base::NoMemory;
 use wh_command::Status;
-use wh_io::{MemDisk, MemFiles, MemSink};
 use wh_steps::{NoLedger, Steps};
-
-// What a run comes to: the status, and what stands on `out` and on `err`.
-#[derive(Clone, Copy)]
-pub(crate) struct End<'a>(pub(crate) Status, pub(crate) &'a str, pub(crate) &'a str);
 
 // The reads of files, and the writes of `out`, that fail in a run: the numbers of their calls.
 #[derive(Clone, Copy)]
@@ -34,104 +28,9 @@ pub(crate) struct Story<'a> {
     pub(crate) first: &'a [u8],
     pub(crate) second: &'a [u8],
     pub(crate) disk_fails: &'a [u64],
-    pub(crate) held: &'a [(&'a str, &'a [u8])],
+    pub(crate) held: Held<'a>,
     pub(crate) rows: &'a [Row<'a>],
     pub(crate) left: &'a [(&'a [u8], &'a [u8])],
-}
-
-// The two files of a store, as disks.
-#[derive(Drop)]
-pub(crate) struct Store {
-    first: MemDisk,
-    second: MemDisk,
-}
-
-fn disk(alloc: Global, bytes: &[u8], fails: &[u64]) -> Result<MemDisk, NoMemory> {
-    let content = ByteText::from_slice(alloc, bytes)?;
-    MemDisk::new(alloc, content, 4000, 100, numbers(alloc, fails)?)
-}
-
-fn words_of(alloc: Global, listed: &[&str]) -> Result<Vec<String>, NoMemory> {
-    let mut words = Vec::new(alloc);
-    for word in listed {
-        words.push(String::from_str(alloc, word)?)?;
-    }
-    Ok(words)
-}
-
-fn sink(alloc: Global, fails: &[u64]) -> Result<MemSink, NoMemory> {
-    MemSink::new(alloc, 1000, 1000, numbers(alloc, fails)?)
-}
-
-fn run_on(
-    alloc: Global,
-    words: &[String],
-    files: &mut MemFiles,
-    out: &mut MemSink,
-    err: &mut MemSink,
-    store: &mut Store,
-    counts: &mut Steps<NoLedger>,
-) -> Status {
-    run(
-        alloc,
-        words,
-        files,
-        out,
-        err,
-        &mut store.first,
-        &mut store.second,
-        counts,
-    )
-}
-
-fn is_end(end: &End<'_>, status: Status, out: &MemSink, err: &MemSink) -> bool {
-    status == end.0 && out.taken() == end.1.as_bytes() && err.taken() == end.2.as_bytes()
-}
-
-// Whether a run over a store comes to this end.
-pub(crate) fn ends(
-    rt: &impl Abort,
-    alloc: Global,
-    counts: &mut Steps<NoLedger>,
-    store: &mut Store,
-    case: &Case<'_>,
-    end: &End<'_>,
-) -> Result<bool, NoMemory> {
-    let words = words_of(alloc, case.words)?;
-    let mut files = files(rt, alloc, case)?;
-    let mut out = sink(alloc, case.out_fails)?;
-    let mut err = sink(alloc, case.err_fails)?;
-    let status = run_on(alloc, &words, &mut files, &mut out, &mut err, store, counts);
-    Ok(is_end(end, status, &out, &err))
-}
-
-// How a run over a store ends, and what it prints.
-pub(crate) fn answer(
-    rt: &impl Abort,
-    alloc: Global,
-    counts: &mut Steps<NoLedger>,
-    store: &mut Store,
-    case: &Case<'_>,
-) -> Result<(Status, ByteText), NoMemory> {
-    let words = words_of(alloc, case.words)?;
-    let mut files = files(rt, alloc, case)?;
-    let mut out = sink(alloc, &[])?;
-    let mut err = sink(alloc, &[])?;
-    let status = run_on(alloc, &words, &mut files, &mut out, &mut err, store, counts);
-    Ok((status, ByteText::from_slice(alloc, out.taken())?))
-}
-
-// What a run over a store prints that ends with Ok.
-pub(crate) fn printed(
-    rt: &impl Abort,
-    alloc: Global,
-    counts: &mut Steps<NoLedger>,
-    store: &mut Store,
-    case: &Case<'_>,
-) -> Result<ByteText, NoMemory> {
-    let (status, text) = answer(rt, alloc, counts, store, case)?;
-    assert!(rt; status == Status::Ok);
-    Ok(text)
 }
 
 // An empty store, with the calls of its two disks that fail.
@@ -140,34 +39,45 @@ pub(crate) fn empty_store(
     first_fails: &[u64],
     second_fails: &[u64],
 ) -> Result<Store, NoMemory> {
-    Ok(Store {
-        first: disk(alloc, b"", first_fails)?,
-        second: disk(alloc, b"", second_fails)?,
-    })
+    let first = disk(alloc, b"", first_fails)?;
+    let second = disk(alloc, b"", second_fails)?;
+    Ok(Store { first, second })
 }
 
-// The store of a story after its last row.
-pub(crate) fn told(
-    rt: &impl Abort,
+// The store of a story before its first row.
+pub(crate) fn store_of(alloc: Global, story: &Story<'_>) -> Result<Store, NoMemory> {
+    let first = disk(alloc, story.first, story.disk_fails)?;
+    let second = disk(alloc, story.second, &[])?;
+    Ok(Store { first, second })
+}
+
+fn row_ends<'a>(
     alloc: Global,
     counts: &mut Steps<NoLedger>,
-    number: usize,
+    store: &mut Store,
+    held: Held<'a>,
+    row: &Row<'a>,
+) -> Result<bool, NoMemory> {
+    let Row(words, fails, end) = row;
+    let mut case = show(words, held);
+    case.read_fails = fails.0;
+    case.out_fails = fails.1;
+    ends(alloc, counts, store, &case, end)
+}
+
+// Whether each row of a story comes to its end, over the story's store.
+pub(crate) fn rows_end(
+    alloc: Global,
+    counts: &mut Steps<NoLedger>,
+    store: &mut Store,
     story: &Story<'_>,
-) -> Result<Store, NoMemory> {
-    let mut store = Store {
-        first: disk(alloc, story.first, story.disk_fails)?,
-        second: disk(alloc, story.second, &[])?,
-    };
-    for (place, Row(words, fails, end)) in story.rows.iter().enumerate() {
-        let mut case = show(words, story.held);
-        case.read_fails = fails.0;
-        case.out_fails = fails.1;
-        assert!(rt;
-            ends(rt, alloc, counts, &mut store, &case, end)?,
-            "story {number}, row {place}"
-        );
+) -> Result<bool, NoMemory> {
+    for row in story.rows {
+        if !row_ends(alloc, counts, store, story.held, row)? {
+            return Ok(false);
+        }
     }
-    Ok(store)
+    Ok(true)
 }
 
 // Whether the two files hold what is told of them.
@@ -180,19 +90,37 @@ fn is_left(store: &Store, left: &[(&[u8], &[u8])]) -> bool {
     true
 }
 
-/// Tells each story from its beginning. A test of stories is one call of this over a constant: a test function is proved,
+fn is_told_on(
+    alloc: Global,
+    counts: &mut Steps<NoLedger>,
+    store: &mut Store,
+    story: &Story<'_>,
+) -> Result<bool, NoMemory> {
+    Ok(rows_end(alloc, counts, store, story)? && is_left(store, story.left))
+}
+
+fn is_told(
+    alloc: Global,
+    counts: &mut Steps<NoLedger>,
+    story: &Story<'_>,
+) -> Result<bool, NoMemory> {
+    let mut store = store_of(alloc, story)?;
+    is_told_on(alloc, counts, &mut store, story)
+}
+
+/// Whether each story is told from its beginning. A test of stories asks it once of a constant: a test function is proved,
 /// and what it makes and lends itself costs the proof dear.
-pub(crate) fn tell_all(
-    rt: &impl Abort,
+pub(crate) fn are_told(
     alloc: Global,
     counts: &mut Steps<NoLedger>,
     stories: &[Story<'_>],
-) -> Result<(), NoMemory> {
-    for (number, story) in stories.iter().enumerate() {
-        let store = told(rt, alloc, counts, number, story)?;
-        assert!(rt; is_left(&store, story.left), "story {number}");
+) -> Result<bool, NoMemory> {
+    for story in stories {
+        if !is_told(alloc, counts, story)? {
+            return Ok(false);
+        }
     }
-    Ok(())
+    Ok(true)
 }
 
 pub(crate) const LOAD_B: &[&str] = &["load", "spec_b.txt", "dir_a"];
@@ -207,29 +135,7 @@ const EMPLOYEES: End<'static> = End(Status::Ok, EMP_ROWS, "");
 
 const NOT_LOADED: End<'static> = End(Status::NotLoaded, "", "not loaded\n");
 
-const FAILED_LOAD: &[Row<'static>] = &[Row(
-    LOAD_B,
-    NONE,
-    End(Status::DiskFault, "", "disk fault\n"),
-)];
-
-// A store in which a load failed since its first disk fails from a call on.
-fn failed_load(
-    rt: &impl Abort,
-    alloc: Global,
-    counts: &mut Steps<NoLedger>,
-    fails: &[u64],
-) -> Result<Store, NoMemory> {
-    let story = Story {
-        first: b"",
-        second: b"",
-        disk_fails: fails,
-        held: FILES_A,
-        rows: FAILED_LOAD,
-        left: &[],
-    };
-    told(rt, alloc, counts, 0, &story)
-}
+const LOAD_FAILS: End<'static> = End(Status::DiskFault, "", "disk fault\n");
 
 // What a crash leaves that fills what was pending.
 pub(crate) fn crashed(
@@ -238,61 +144,105 @@ pub(crate) fn crashed(
     fill: u8,
     torn: bool,
 ) -> Result<Store, NoMemory> {
-    Ok(Store {
-        first: store.first.after_crash(alloc, fill, torn)?,
-        second: store.second.after_crash(alloc, fill, torn)?,
-    })
+    let first = store.first.after_crash(alloc, fill, torn)?;
+    let second = store.second.after_crash(alloc, fill, torn)?;
+    Ok(Store { first, second })
 }
 
 // Whether a store is empty or loaded.
 fn is_kept(
-    rt: &impl Abort,
     alloc: Global,
     counts: &mut Steps<NoLedger>,
     store: &mut Store,
 ) -> Result<bool, NoMemory> {
     let asked = show(EMP, &[]);
-    let is_empty = ends(rt, alloc, counts, store, &asked, &NOT_LOADED)?;
-    let is_loaded = ends(rt, alloc, counts, store, &asked, &EMPLOYEES)?;
+    let is_empty = ends(alloc, counts, store, &asked, &NOT_LOADED)?;
+    let is_loaded = ends(alloc, counts, store, &asked, &EMPLOYEES)?;
     Ok(is_empty || is_loaded)
 }
 
+fn is_kept_after_crash(
+    alloc: Global,
+    counts: &mut Steps<NoLedger>,
+    store: &Store,
+    fill: u8,
+    torn: bool,
+) -> Result<bool, NoMemory> {
+    let mut left = crashed(alloc, store, fill, torn)?;
+    is_kept(alloc, counts, &mut left)
+}
+
+// Whether a load fails on a store, and a crash leaves nothing or the loaded store.
+fn survives_on(
+    alloc: Global,
+    counts: &mut Steps<NoLedger>,
+    store: &mut Store,
+    fill: u8,
+    torn: bool,
+) -> Result<bool, NoMemory> {
+    let load = show(LOAD_B, FILES_A);
+    Ok(
+        ends(alloc, counts, store, &load, &LOAD_FAILS)?
+            && is_kept_after_crash(alloc, counts, store, fill, torn)?,
+    )
+}
+
 fn survives(
-    rt: &impl Abort,
     alloc: Global,
     counts: &mut Steps<NoLedger>,
     fails: &[u64],
     fill: u8,
     torn: bool,
 ) -> Result<bool, NoMemory> {
-    let failing = failed_load(rt, alloc, counts, fails)?;
-    let mut left = crashed(alloc, &failing, fill, torn)?;
-    is_kept(rt, alloc, counts, &mut left)
+    let mut store = empty_store(alloc, fails, &[])?;
+    survives_on(alloc, counts, &mut store, fill, torn)
 }
 
 // The numbers of the calls of a disk in a load: a sync and a length, the same again, a length, and then two settled writes
 // for the closed mark and four calls for the frame.
 const CALLS: &[u64] = &[1, 2, 3, 4, 5, 6, 7, 8, 9, 10, 11];
 
-#[test]
-fn a_crash_leaves_nothing_or_the_store(rt: HostRuntime) -> Result<(), Fail> {
-    let alloc = rt.alloc();
-    let mut steps = Steps::new(&rt, NoLedger);
-    for passed in 0..CALLS.len() {
-        for fill in [0, 1, 255] {
-            for torn in [true, false] {
-                assert!(rt;
-                    survives(&rt, alloc, &mut steps, &CALLS[passed..], fill, torn)?,
-                    "after {passed} calls"
-                );
-            }
+// What fills the places that were pending in a crash, and whether it was a torn one.
+pub(crate) const CRASHES: &[(u8, bool)] = &[
+    (0, true),
+    (0, false),
+    (1, true),
+    (1, false),
+    (255, true),
+    (255, false),
+];
+
+fn survives_all(
+    alloc: Global,
+    counts: &mut Steps<NoLedger>,
+    fails: &[u64],
+) -> Result<bool, NoMemory> {
+    for (fill, torn) in CRASHES {
+        if !survives(alloc, counts, fails, *fill, *torn)? {
+            return Ok(false);
         }
     }
+    Ok(true)
+}
+
+fn survives_each(alloc: Global, counts: &mut Steps<NoLedger>) -> Result<bool, NoMemory> {
+    for passed in 0..CALLS.len() {
+        if !survives_all(alloc, counts, &CALLS[passed..])? {
+            return Ok(false);
+        }
+    }
+    Ok(true)
+}
+
+#[test]
+fn a_crash_leaves_nothing_or_the_store(rt: HostRuntime) -> Result<(), Fail> {
+    let mut counts = Steps::new(&rt, NoLedger);
+    assert!(rt; survives_each(rt.alloc(), &mut counts)?);
     Ok(())
 }
 
 // A dump with a byte order mark, quotes and a line feed in a text, and dumps of headers alone.
-const TEXTS: &[(&str, &[u8])] = &[
+const TEXTS: Held<'static> = &[
     (
         "s",
         b"relation T(k int, v text) key (k); relation Empty(e int) key (e); view Keys(k) = T;",
@@ -429,7 +379,8 @@ view Sold = Sale join Emp;",
 #[test]
 fn loads_are_kept(rt: HostRuntime) -> Result<(), Fail> {
     let mut counts = Steps::new(&rt, NoLedger);
-    Ok(tell_all(&rt, rt.alloc(), &mut counts, LOADS)?)
+    assert!(rt; are_told(rt.alloc(), &mut counts, LOADS)?);
+    Ok(())
 }
 
 const FILES: &[Story<'static>] = &[
@@ -532,10 +483,11 @@ const FILES: &[Story<'static>] = &[
 #[test]
 fn files_are_told_apart(rt: HostRuntime) -> Result<(), Fail> {
     let mut counts = Steps::new(&rt, NoLedger);
-    Ok(tell_all(&rt, rt.alloc(), &mut counts, FILES)?)
+    assert!(rt; are_told(rt.alloc(), &mut counts, FILES)?);
+    Ok(())
 }
 
-const TWICE: &[(&str, &[u8])] = &[
+const TWICE: Held<'static> = &[
     ("r", b"relation R(k int, a int) key (k);"),
     ("bad", b"relation R(k int, a int key (k);"),
     ("d/R.csv", b"k,a\n1,1\n2,1\n1,2\n"),
@@ -640,5 +592,6 @@ const FAULTS: &[Story<'static>] = &[
 #[test]
 fn faults_are_told(rt: HostRuntime) -> Result<(), Fail> {
     let mut counts = Steps::new(&rt, NoLedger);
-    Ok(tell_all(&rt, rt.alloc(), &mut counts, FAULTS)?)
+    assert!(rt; are_told(rt.alloc(), &mut counts, FAULTS)?);
+    Ok(())
 }

@@ -1,118 +1,50 @@
 // The top call over devices in memory: worked rows, byte by byte.
-use crate::run::run;
+use crate::runs::{Case, End, Held, ends_apart, show};
 use std::alloc::Global;
-use std::process::Abort;
 use std::test::Fail;
-use wh_base::{ByteText, Name, Names, NoMemory, Numbers, Texts};
+use wh_base::NoMemory;
 use wh_command::Status;
-use wh_io::{MemDisk, MemFiles, MemSink};
 use wh_steps::{NoLedger, Steps};
 
-// A run: its words, the files that are held, and the calls that fail.
+// A run that nothing fails: its words, the files that are held, and its end.
 #[derive(Clone, Copy)]
-pub(crate) struct Case<'a> {
-    pub(crate) words: &'a [&'a str],
-    pub(crate) held: &'a [(&'a str, &'a [u8])],
-    pub(crate) read_fails: &'a [u64],
-    pub(crate) out_most: u64,
-    pub(crate) out_fails: &'a [u64],
-    pub(crate) err_fails: &'a [u64],
-}
+struct Run<'a>(&'a [&'a str], Held<'a>, End<'a>);
 
-// What it comes to: the status, and what stands on `out` and on `err`.
-#[derive(Clone, Copy)]
-struct Row<'a>(Case<'a>, Status, &'a str, &'a str);
-
-pub(crate) fn show<'a>(words: &'a [&'a str], held: &'a [(&'a str, &'a [u8])]) -> Case<'a> {
-    Case {
-        words,
-        held,
-        read_fails: &[],
-        out_most: 1000,
-        out_fails: &[],
-        err_fails: &[],
-    }
-}
-
-fn printed<'a>(words: &'a [&'a str], held: &'a [(&'a str, &'a [u8])], out: &'a str) -> Row<'a> {
-    Row(show(words, held), Status::Ok, out, "")
-}
-
-fn told<'a>(
-    words: &'a [&'a str],
-    held: &'a [(&'a str, &'a [u8])],
-    status: Status,
-    err: &'a str,
-) -> Row<'a> {
-    Row(show(words, held), status, "", err)
-}
-
-pub(crate) fn numbers(alloc: Global, listed: &[u64]) -> Result<Numbers, NoMemory> {
-    let mut numbers = Numbers::new(alloc);
-    for number in listed {
-        numbers.push(*number)?;
-    }
-    Ok(numbers)
-}
-
-pub(crate) fn files(rt: &impl Abort, alloc: Global, case: &Case<'_>) -> Result<MemFiles, NoMemory> {
-    let mut names = Names::new(alloc);
-    let mut contents = Texts::new(alloc);
-    for (name, content) in case.held {
-        names.push(Name::from_vec(Vec::from_slice(alloc, name.as_bytes())?))?;
-        contents.push(ByteText::from_slice(alloc, content)?)?;
-    }
-    assert_eq!(rt; names.len(), contents.len());
-    Ok(MemFiles::new(names, contents, numbers(alloc, case.read_fails)?))
-}
-
-fn disk(alloc: Global) -> Result<MemDisk, NoMemory> {
-    MemDisk::new(alloc, ByteText::new(alloc), 0, 0, Numbers::new(alloc))
-}
-
-// Whether the row's run comes to what the row says.
-fn holds(
-    rt: &impl Abort,
+// Whether each run comes to its end.
+fn all_end(
     alloc: Global,
-    steps: &mut Steps<NoLedger>,
-    row: &Row<'_>,
+    counts: &mut Steps<NoLedger>,
+    runs: &[Run<'_>],
 ) -> Result<bool, NoMemory> {
-    let Row(case, status, out_wanted, err_wanted) = row;
-    let mut words = Vec::new(alloc);
-    for word in case.words {
-        words.push(String::from_str(alloc, word)?)?;
+    for Run(words, held, end) in runs {
+        if !ends_apart(alloc, counts, &show(words, held), end)? {
+            return Ok(false);
+        }
     }
-    let mut files = files(rt, alloc, case)?;
-    assert!(rt; case.out_most > 0);
-    let mut out = MemSink::new(alloc, case.out_most, 1000, numbers(alloc, case.out_fails)?)?;
-    let mut err = MemSink::new(alloc, 1000, 1000, numbers(alloc, case.err_fails)?)?;
-    let got = run(
-        alloc,
-        &words,
-        &mut files,
-        &mut out,
-        &mut err,
-        &mut disk(alloc)?,
-        &mut disk(alloc)?,
-        steps,
-    );
-    Ok(
-        got == *status
-            && out.taken() == out_wanted.as_bytes()
-            && err.taken() == err_wanted.as_bytes(),
-    )
+    Ok(true)
 }
 
-fn all_hold(
-    rt: &impl Abort,
+// The same of runs in which calls fail.
+fn all_cases_end(
     alloc: Global,
-    steps: &mut Steps<NoLedger>,
-    rows: &[Row<'_>],
-) -> Result<(), NoMemory> {
-    for (number, row) in rows.iter().enumerate() {
-        assert!(rt; holds(rt, alloc, steps, row)?, "row {number}");
+    counts: &mut Steps<NoLedger>,
+    cases: &[(Case<'_>, End<'_>)],
+) -> Result<bool, NoMemory> {
+    for (case, end) in cases {
+        if !ends_apart(alloc, counts, case, end)? {
+            return Ok(false);
+        }
     }
-    Ok(())
+    Ok(true)
+}
+
+fn all_come_to(
+    alloc: Global,
+    counts: &mut Steps<NoLedger>,
+    runs: &[Run<'_>],
+    cases: &[(Case<'_>, End<'_>)],
+) -> Result<bool, NoMemory> {
+    Ok(all_end(alloc, counts, runs)? && all_cases_end(alloc, counts, cases)?)
 }
 
 const SPEC_A: &[u8] = b"relation Emp(clerk text, age int) key (clerk);
@@ -130,7 +62,7 @@ pub(crate) const EMP: &[u8] = b"clerk,age\nMary,23\nJohn,25\nPaula,32\n";
 
 pub(crate) const SALE: &[u8] = b"item,clerk\nTV,Mary\nVCR,Mary\nPC,John\n";
 
-pub(crate) const FILES_A: &[(&str, &[u8])] = &[
+pub(crate) const FILES_A: Held<'static> = &[
     ("spec_a.txt", SPEC_A),
     ("spec_b.txt", SPEC_B),
     ("dir_a/Emp.csv", EMP),
@@ -285,75 +217,133 @@ const MARKED_T: &[u8] =
 const QUOTED: &[u8] = b"\xef\xbb\xbfk,v\r\n-9223372036854775808,\"a,b\"\r
 1,\"say \"\"x\"\"\"\r\n2,\"two\nlines\"\r\n";
 
-#[test]
-fn stored_tables_are_printed(rt: HostRuntime) -> Result<(), Fail> {
-    let rows = [
-        printed(SHOW_A, FILES_A, STORED_A),
-        Row(
-            Case {
-                out_most: 1,
-                ..show(SHOW_A, FILES_A)
-            },
+const SHOWN: &[Run<'static>] = &[
+    Run(SHOW_A, FILES_A, End(Status::Ok, STORED_A, "")),
+    Run(
+        SHOW,
+        &[("s", NOTE), ("d/Note.csv", b"id,body\n2,b\n1,a\n")],
+        End(Status::Ok, "complement Note: 2\nid,body\n1,a\n2,b\n", ""),
+    ),
+    Run(
+        SHOW,
+        &[("s", OLD), ("d/Emp.csv", EMP)],
+        End(
             Status::Ok,
-            STORED_A,
+            "view Old: 1\nclerk,age\nPaula,32\ncomplement Emp: 2\nclerk,age\nJohn,25\nMary,23\n",
             "",
         ),
-        printed(
-            SHOW,
-            &[("s", NOTE), ("d/Note.csv", b"id,body\n2,b\n1,a\n")],
-            "complement Note: 2\nid,body\n1,a\n2,b\n",
-        ),
-        printed(
-            SHOW,
-            &[("s", OLD), ("d/Emp.csv", EMP)],
-            "view Old: 1\nclerk,age\nPaula,32\ncomplement Emp: 2\nclerk,age\nJohn,25\nMary,23\n",
-        ),
-        printed(
-            SHOW,
-            &[("s", HEADS), ("d/R.csv", b"k,a,b\n1,5,6\n2,0,7\n3,8,0\n")],
+    ),
+    Run(
+        SHOW,
+        &[("s", HEADS), ("d/R.csv", b"k,a,b\n1,5,6\n2,0,7\n3,8,0\n")],
+        End(
+            Status::Ok,
             "view Va: 2\nk,a\n1,5\n3,8\nview Vb: 2\nk,b\n1,6\n2,7\ncomplement R: 2\nk,a,b\n2,0,7\n3,8,0\n",
+            "",
         ),
-        printed(
-            SHOW,
-            &[("s", MARKED_T), ("d/T.csv", QUOTED)],
+    ),
+    Run(
+        SHOW,
+        &[("s", MARKED_T), ("d/T.csv", QUOTED)],
+        End(
+            Status::Ok,
             "complement T: 3\nk,v\n-9223372036854775808,\"a,b\"\n1,\"say \"\"x\"\"\"\n2,\"two\nlines\"\n",
+            "",
         ),
-        // A lone CR ends a record, and so does the end of the text inside quotes. A quote opens a field only as its
-        // first byte, and what stands behind a closing one belongs to the field. The columns stand in any order,
-        // and a row that comes again is one row.
-        printed(
-            SHOW,
-            &[
-                ("s", T),
-                (
-                    "d/T.csv",
-                    b"v,k\r\"a\"b\"c,+01\n\nx\"y,3\n\"\",4\nx\"y,3\nopen,\"2",
-                ),
-            ],
+    ),
+    // A lone CR ends a record, and so does the end of the text inside quotes. A quote opens a field only as its
+    // first byte, and what stands behind a closing one belongs to the field. The columns stand in any order,
+    // and a row that comes again is one row.
+    Run(
+        SHOW,
+        &[
+            ("s", T),
+            (
+                "d/T.csv",
+                b"v,k\r\"a\"b\"c,+01\n\nx\"y,3\n\"\",4\nx\"y,3\nopen,\"2",
+            ),
+        ],
+        End(
+            Status::Ok,
             "complement T: 4\nk,v\n1,\"ab\"\"c\"\n2,open\n3,\"x\"\"y\"\n4,\"\"\n",
+            "",
         ),
-        printed(&["plan", "spec_b.txt"], FILES_A, PLAN_B),
-        printed(&["plan", "s"], &[("s", HEADS)], PLAN_HEADS),
-        printed(&["plan", "s"], &[("s", ITEMS)], PLAN_ITEMS),
-        printed(&["plan", "s"], &[("s", PICKS)], PLAN_PICKS),
-        printed(&["plan", "s"], &[("s", REFS)], PLAN_REFS),
-        printed(&["plan", "s"], &[("s", PIECES_12)], PLAN_12),
-        printed(&["plan", "s"], &[("s", b"")], "order: \n"),
-        printed(SHOW, &[("s", b"")], ""),
-        printed(SHOW, &[("s", b"\xef\xbb\xbf -- nothing\r\n\t")], ""),
-        printed(SHOW_B, FILES_A, STORED_A),
-        printed(
-            SHOW,
-            &[
-                ("s", ITEMS),
-                ("d/Item.csv", b"sku,cat,price\n1,10,100\n2,20,200\n"),
-                ("d/Line.csv", b"line,sku,cat\n7,1,10\n"),
-            ],
+    ),
+    Run(
+        &["plan", "spec_b.txt"],
+        FILES_A,
+        End(Status::Ok, PLAN_B, ""),
+    ),
+    Run(
+        &["plan", "s"],
+        &[("s", HEADS)],
+        End(Status::Ok, PLAN_HEADS, ""),
+    ),
+    Run(
+        &["plan", "s"],
+        &[("s", ITEMS)],
+        End(Status::Ok, PLAN_ITEMS, ""),
+    ),
+    Run(
+        &["plan", "s"],
+        &[("s", PICKS)],
+        End(Status::Ok, PLAN_PICKS, ""),
+    ),
+    Run(
+        &["plan", "s"],
+        &[("s", REFS)],
+        End(Status::Ok, PLAN_REFS, ""),
+    ),
+    Run(
+        &["plan", "s"],
+        &[("s", PIECES_12)],
+        End(Status::Ok, PLAN_12, ""),
+    ),
+    Run(
+        &["plan", "s"],
+        &[("s", b"")],
+        End(Status::Ok, "order: \n", ""),
+    ),
+    Run(SHOW, &[("s", b"")], End(Status::Ok, "", "")),
+    Run(
+        SHOW,
+        &[("s", b"\xef\xbb\xbf -- nothing\r\n\t")],
+        End(Status::Ok, "", ""),
+    ),
+    Run(SHOW_B, FILES_A, End(Status::Ok, STORED_A, "")),
+    Run(
+        SHOW,
+        &[
+            ("s", ITEMS),
+            ("d/Item.csv", b"sku,cat,price\n1,10,100\n2,20,200\n"),
+            ("d/Line.csv", b"line,sku,cat\n7,1,10\n"),
+        ],
+        End(
+            Status::Ok,
             "view Prices: 2\nsku,price\n1,100\n2,200\ncomplement Item: 1\nsku,cat,price\n2,20,200\ncomplement Line: 1\nline,sku,cat\n7,1,10\n",
+            "",
         ),
-    ];
-    let mut steps = Steps::new(&rt, NoLedger);
-    Ok(all_hold(&rt, rt.alloc(), &mut steps, &rows)?)
+    ),
+];
+
+// A sink that takes one byte in a call.
+const BY_BYTES: &[(Case<'static>, End<'static>)] = &[(
+    Case {
+        words: SHOW_A,
+        held: FILES_A,
+        read_fails: &[],
+        out_most: 1,
+        out_fails: &[],
+        err_fails: &[],
+    },
+    End(Status::Ok, STORED_A, ""),
+)];
+
+#[test]
+fn stored_tables_are_printed(rt: HostRuntime) -> Result<(), Fail> {
+    let mut counts = Steps::new(&rt, NoLedger);
+    assert!(rt; all_come_to(rt.alloc(), &mut counts, SHOWN, BY_BYTES)?);
+    Ok(())
 }
 
 const PIECES_13: &[u8] = b"relation R(k int, a int) key (k);
@@ -363,57 +353,75 @@ view V8 = R; view V9 = R; view V10 = R; view V11 = R; view V12 = R; view V13 = R
 const LONG_NAME: &[u8] = b"relation R(k int) key (k);
 view V = R where aaaaaaaaaaaaaaaaaaaaaaaaaaaaaaaaaaaaaaaaaaaaaaaaaaaaaaaaaaaaaaaaa = 1;";
 
+// Specifications, and the line of the fault of each.
+const BAD_SPECS: &[(&[u8], &str)] = &[
+    (b"relation R(k int key (k);", "spec: byte 17: syntax\n"),
+    (b"relation R(k int) key (k)", "spec: byte 25: syntax\n"),
+    (
+        b"relation R(k int, k int) key (k);",
+        "spec: statement 1: repeated name k\n",
+    ),
+    (
+        b"relation R(k int) key (k); view V = R; view W = V;",
+        "spec: statement 3: unknown relation V\n",
+    ),
+    (LONG_NAME, "spec: statement 2: limit: name\n"),
+    (
+        CYCLE,
+        "spec: statement 6: cyclic inclusion C -> A -> B -> C\n",
+    ),
+    (
+        b"relation P(id int, boss int) key (id); inclusion P(boss) in P(id);",
+        "spec: statement 2: cyclic inclusion P -> P\n",
+    ),
+    (
+        b"relation P(id int, boss text) key (id); relation Q(id int) key (id); inclusion P(boss) in Q(id);",
+        "spec: statement 3: bad inclusion\n",
+    ),
+    (PIECES_13, "spec: relation R has 13 pieces\n"),
+    (b"\xef\xbb\xbf\xef\xbb\xbf", "spec: byte 0: bad byte\n"),
+    (b"\xef\xbb\xbf -- \xc3\n", "spec: byte 4: bad byte\n"),
+    (b"'a\xffc", "spec: byte 0: open quote\n"),
+    (b"'a\xffc'", "spec: byte 2: bad byte\n"),
+    (
+        b"k = 'it''s' 9223372036854775808",
+        "spec: byte 12: number out of range\n",
+    ),
+    // Sixty-five parentheses open at once: a mark that closes nothing is no credit, and `;` closes none.
+    (
+        b")(((((((((((((((((((((((((((((((((((((((((((((((((((((((((((((((((",
+        "spec: byte 65: too nested\n",
+    ),
+    (
+        b"((((((((((((((((((((((((((((((((((((((((((((((((((((((((((((((((;(",
+        "spec: byte 65: too nested\n",
+    ),
+];
+
+fn is_bad_spec(
+    alloc: Global,
+    counts: &mut Steps<NoLedger>,
+    spec: &[u8],
+    line: &str,
+) -> Result<bool, NoMemory> {
+    let held = [("s", spec)];
+    let end = End(Status::BadSpec, "", line);
+    ends_apart(alloc, counts, &show(SHOW, &held), &end)
+}
+
+fn are_bad_specs(alloc: Global, counts: &mut Steps<NoLedger>) -> Result<bool, NoMemory> {
+    for (spec, line) in BAD_SPECS {
+        if !is_bad_spec(alloc, counts, spec, line)? {
+            return Ok(false);
+        }
+    }
+    Ok(true)
+}
+
 #[test]
 fn each_specification_is_refused_at_its_place(rt: HostRuntime) -> Result<(), Fail> {
-    let rows: [(&[u8], &str); 16] = [
-        (b"relation R(k int key (k);", "spec: byte 17: syntax\n"),
-        (b"relation R(k int) key (k)", "spec: byte 25: syntax\n"),
-        (
-            b"relation R(k int, k int) key (k);",
-            "spec: statement 1: repeated name k\n",
-        ),
-        (
-            b"relation R(k int) key (k); view V = R; view W = V;",
-            "spec: statement 3: unknown relation V\n",
-        ),
-        (LONG_NAME, "spec: statement 2: limit: name\n"),
-        (
-            CYCLE,
-            "spec: statement 6: cyclic inclusion C -> A -> B -> C\n",
-        ),
-        (
-            b"relation P(id int, boss int) key (id); inclusion P(boss) in P(id);",
-            "spec: statement 2: cyclic inclusion P -> P\n",
-        ),
-        (
-            b"relation P(id int, boss text) key (id); relation Q(id int) key (id); inclusion P(boss) in Q(id);",
-            "spec: statement 3: bad inclusion\n",
-        ),
-        (PIECES_13, "spec: relation R has 13 pieces\n"),
-        (b"\xef\xbb\xbf\xef\xbb\xbf", "spec: byte 0: bad byte\n"),
-        (b"\xef\xbb\xbf -- \xc3\n", "spec: byte 4: bad byte\n"),
-        (b"'a\xffc", "spec: byte 0: open quote\n"),
-        (b"'a\xffc'", "spec: byte 2: bad byte\n"),
-        (
-            b"k = 'it''s' 9223372036854775808",
-            "spec: byte 12: number out of range\n",
-        ),
-        // Sixty-five parentheses open at once: a mark that closes nothing is no credit, and `;` closes none.
-        (
-            b")(((((((((((((((((((((((((((((((((((((((((((((((((((((((((((((((((",
-            "spec: byte 65: too nested\n",
-        ),
-        (
-            b"((((((((((((((((((((((((((((((((((((((((((((((((((((((((((((((((;(",
-            "spec: byte 65: too nested\n",
-        ),
-    ];
-    let mut steps = Steps::new(&rt, NoLedger);
-    for (spec, err) in &rows {
-        let held = [("s", *spec)];
-        let row = told(SHOW, &held, Status::BadSpec, err);
-        assert!(rt; holds(&rt, rt.alloc(), &mut steps, &row)?, "{err}");
-    }
+    let mut counts = Steps::new(&rt, NoLedger);
+    assert!(rt; are_bad_specs(rt.alloc(), &mut counts)?);
     Ok(())
 }
 
@@ -430,158 +438,205 @@ const HELD_T: &[(&str, &[u8])] = &[
     ("left/T.csv", b"v,k\n\xff,z\n"),
 ];
 
-#[test]
-fn refusals_and_faults_are_told(rt: HostRuntime) -> Result<(), Fail> {
-    let twice: &[(&str, &[u8])] = &[
-        ("spec_a.txt", SPEC_A),
-        ("dir_a/Emp.csv", b"clerk,age\nMary,23\nMary,24\n"),
-        ("dir_a/Sale.csv", SALE),
-    ];
-    // The bytes of a capital E with an accent stand above those of every ASCII letter.
-    let lacking: &[(&str, &[u8])] = &[
-        ("spec_b.txt", SPEC_B),
-        ("dir_a/Emp.csv", EMP),
-        (
-            "dir_a/Sale.csv",
-            b"item,clerk\nX,\xc3\x89mile\nX,Zoe\nTV,Mary\n",
-        ),
-    ];
-    let alone: &[(&str, &[u8])] = &[("spec_a.txt", SPEC_A), ("dir_a/Emp.csv", EMP)];
-    let rows = [
-        told(
-            SHOW_A,
-            twice,
+const KEY_TWICE: Held<'static> = &[
+    ("spec_a.txt", SPEC_A),
+    ("dir_a/Emp.csv", b"clerk,age\nMary,23\nMary,24\n"),
+    ("dir_a/Sale.csv", SALE),
+];
+
+// The bytes of a capital E with an accent stand above those of every ASCII letter.
+const LACKING: Held<'static> = &[
+    ("spec_b.txt", SPEC_B),
+    ("dir_a/Emp.csv", EMP),
+    (
+        "dir_a/Sale.csv",
+        b"item,clerk\nX,\xc3\x89mile\nX,Zoe\nTV,Mary\n",
+    ),
+];
+
+const ALONE: Held<'static> = &[("spec_a.txt", SPEC_A), ("dir_a/Emp.csv", EMP)];
+
+const REFUSED: &[Run<'static>] = &[
+    Run(
+        SHOW_A,
+        KEY_TWICE,
+        End(
             Status::Refused,
+            "",
             "refused: key 1 Emp(clerk) twice (Mary)\n",
         ),
-        told(
-            SHOW_B,
-            lacking,
+    ),
+    Run(
+        SHOW_B,
+        LACKING,
+        End(
             Status::Refused,
+            "",
             "refused: inclusion 3 Sale(clerk) in Emp(clerk) lacks (Zoe)\n",
         ),
-        told(
-            &["show", "s", "twice"],
-            HELD_T,
+    ),
+    Run(
+        &["show", "s", "twice"],
+        HELD_T,
+        End(
             Status::BadInput,
+            "",
             "input: twice/T.csv: record 1: header\n",
         ),
-        told(
-            &["show", "s", "range"],
-            HELD_T,
+    ),
+    Run(
+        &["show", "s", "range"],
+        HELD_T,
+        End(
             Status::BadInput,
+            "",
             "input: range/T.csv: record 2: bad integer\n",
         ),
-        told(
-            &["show", "s", "other"],
-            HELD_T,
+    ),
+    Run(
+        &["show", "s", "other"],
+        HELD_T,
+        End(
             Status::BadInput,
+            "",
             "input: other/T.csv: record 1: header\n",
         ),
-        told(
-            &["show", "s", "empty"],
-            HELD_T,
+    ),
+    Run(
+        &["show", "s", "empty"],
+        HELD_T,
+        End(
             Status::BadInput,
+            "",
             "input: empty/T.csv: record 1: header\n",
         ),
-        told(
-            &["show", "s", "wide"],
-            HELD_T,
+    ),
+    Run(
+        &["show", "s", "wide"],
+        HELD_T,
+        End(
             Status::BadInput,
+            "",
             "input: wide/T.csv: record 3: wrong width\n",
         ),
-        told(
-            &["show", "s", "left"],
-            HELD_T,
+    ),
+    Run(
+        &["show", "s", "left"],
+        HELD_T,
+        End(
             Status::BadInput,
+            "",
             "input: left/T.csv: record 2: not UTF-8\n",
         ),
-        told(
-            &["show", "s", "none/"],
-            HELD_T,
-            Status::NoFile,
-            "no file: none//T.csv\n",
-        ),
-        told(SHOW_A, alone, Status::NoFile, "no file: dir_a/Sale.csv\n"),
-        told(SHOW_A, HELD_T, Status::NoFile, "no file: spec_a.txt\n"),
-        told(
-            &["plan", "s"],
-            &[("s", PIECES_13)],
-            Status::BadSpec,
-            "spec: relation R has 13 pieces\n",
-        ),
-        told(&[], FILES_A, Status::Usage, USAGE),
-        told(&["plan"], FILES_A, Status::Usage, USAGE),
-        told(&["show"], FILES_A, Status::Usage, USAGE),
-        told(
-            &["show", "spec_a.txt", "dir_a", ""],
-            FILES_A,
-            Status::Usage,
-            USAGE,
-        ),
-        told(
-            &["Show", "spec_a.txt", "dir_a"],
-            FILES_A,
-            Status::Usage,
-            USAGE,
-        ),
-        Row(
-            Case {
-                read_fails: &[2],
-                ..show(SHOW_A, FILES_A)
-            },
-            Status::ReadFault,
-            "",
-            "read fault: dir_a/Emp.csv\n",
-        ),
-        Row(
-            Case {
-                out_fails: &[1],
-                ..show(SHOW_A, FILES_A)
-            },
-            Status::WriteFault,
-            "",
-            "write fault\n",
-        ),
-        Row(
-            Case {
-                out_fails: &[2],
-                ..show(SHOW_A, FILES_A)
-            },
-            Status::WriteFault,
-            SOLD,
-            "write fault\n",
-        ),
-        // Where `err` fails as well, a refusal gives way to WriteFault, and a fault stays.
-        Row(
-            Case {
-                err_fails: &[2],
-                ..show(SHOW_A, alone)
-            },
-            Status::WriteFault,
-            "",
-            "no file: ",
-        ),
-        Row(
-            Case {
-                err_fails: &[1],
-                ..show(&["show"], FILES_A)
-            },
-            Status::WriteFault,
-            "",
-            "",
-        ),
-        Row(
-            Case {
-                read_fails: &[1],
-                err_fails: &[1],
-                ..show(SHOW_A, FILES_A)
-            },
-            Status::ReadFault,
-            "",
-            "",
-        ),
-    ];
-    let mut steps = Steps::new(&rt, NoLedger);
-    Ok(all_hold(&rt, rt.alloc(), &mut steps, &rows)?)
+    ),
+    Run(
+        &["show", "s", "none/"],
+        HELD_T,
+        End(Status::NoFile, "", "no file: none//T.csv\n"),
+    ),
+    Run(
+        SHOW_A,
+        ALONE,
+        End(Status::NoFile, "", "no file: dir_a/Sale.csv\n"),
+    ),
+    Run(
+        SHOW_A,
+        HELD_T,
+        End(Status::NoFile, "", "no file: spec_a.txt\n"),
+    ),
+    Run(
+        &["plan", "s"],
+        &[("s", PIECES_13)],
+        End(Status::BadSpec, "", "spec: relation R has 13 pieces\n"),
+    ),
+    Run(&[], FILES_A, End(Status::Usage, "", USAGE)),
+    Run(&["plan"], FILES_A, End(Status::Usage, "", USAGE)),
+    Run(&["show"], FILES_A, End(Status::Usage, "", USAGE)),
+    Run(
+        &["show", "spec_a.txt", "dir_a", ""],
+        FILES_A,
+        End(Status::Usage, "", USAGE),
+    ),
+    Run(
+        &["Show", "spec_a.txt", "dir_a"],
+        FILES_A,
+        End(Status::Usage, "", USAGE),
+    ),
+];
+
+const FAILING: &[(Case<'static>, End<'static>)] = &[
+    (
+        Case {
+            words: SHOW_A,
+            held: FILES_A,
+            read_fails: &[2],
+            out_most: 1000,
+            out_fails: &[],
+            err_fails: &[],
+        },
+        End(Status::ReadFault, "", "read fault: dir_a/Emp.csv\n"),
+    ),
+    (
+        Case {
+            words: SHOW_A,
+            held: FILES_A,
+            read_fails: &[],
+            out_most: 1000,
+            out_fails: &[1],
+            err_fails: &[],
+        },
+        End(Status::WriteFault, "", "write fault\n"),
+    ),
+    (
+        Case {
+            words: SHOW_A,
+            held: FILES_A,
+            read_fails: &[],
+            out_most: 1000,
+            out_fails: &[2],
+            err_fails: &[],
+        },
+        End(Status::WriteFault, SOLD, "write fault\n"),
+    ),
+    // Where `err` fails as well, a refusal gives way to WriteFault, and a fault stays.
+    (
+        Case {
+            words: SHOW_A,
+            held: ALONE,
+            read_fails: &[],
+            out_most: 1000,
+            out_fails: &[],
+            err_fails: &[2],
+        },
+        End(Status::WriteFault, "", "no file: "),
+    ),
+    (
+        Case {
+            words: &["show"],
+            held: FILES_A,
+            read_fails: &[],
+            out_most: 1000,
+            out_fails: &[],
+            err_fails: &[1],
+        },
+        End(Status::WriteFault, "", ""),
+    ),
+    (
+        Case {
+            words: SHOW_A,
+            held: FILES_A,
+            read_fails: &[1],
+            out_most: 1000,
+            out_fails: &[],
+            err_fails: &[1],
+        },
+        End(Status::ReadFault, "", ""),
+    ),
+];
+
+#[test]
+fn refusals_and_faults_are_told(rt: HostRuntime) -> Result<(), Fail> {
+    let mut counts = Steps::new(&rt, NoLedger);
+    assert!(rt; all_come_to(rt.alloc(), &mut counts, REFUSED, FAILING)?);
+    Ok(())
 }

@@ -3,7 +3,7 @@ use Rattle.std.specs.List.{IsDistinct}
 use Rattle.wh_base.specs.declared.value.Value.{Value}
 use Rattle.wh_base.specs.RowSet.{AreDistinct}
 use Rattle.wh_eval.specs.Lists.{HasDistinctRows}
-use Rattle.wh_overlay.proofs.tests.state.Goals as goal
+use Rattle.wh_tests.proofs.overlay_tests.state_of.Goals as goal
 
 none_distinct : AreDistinct []
 unfolding IsDistinct

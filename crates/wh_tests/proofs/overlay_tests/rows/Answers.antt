@@ -2,7 +2,7 @@ use Rattle.std.proofs.Common.{sym, subst}
 use Rattle.std.proofs.lemmas.Result.{IfOk-weaker}
 use Rattle.wh_base.specs.RowSet.{AreDistinct}
 use Rattle.wh_base.proofs.FirstRows.{IsSetOf-first_seen}
-use Rattle.wh_overlay.proofs.tests.rows.Goals as goal
+use Rattle.wh_tests.proofs.overlay_tests.rows.Goals as goal
 
 pub returns : goal.returns
 returns c = IfOk-weaker c.distinct_rows.result _ _ (λ rows is. subst AreDistinct (sym is) (IsSetOf-first_seen _).distinct) c.distinct_rows.ensures

@@ -1,6 +1,8 @@
-use super::*;
+// The texts of generated cases, byte by byte.
+use std::alloc::Global;
 use std::test::Fail;
-use wh_base::ByteText;
+use wh_base::{ByteText, NoMemory, Texts};
+use wh_gen::{Case, make_case};
 
 const SPEC: &[u8] = b"\
 relation Dept(dept int, site text) key (dept);
@@ -50,34 +52,55 @@ const TEN_CHANGES: &[(usize, &[u8])] = &[
 ];
 
 fn is_text(text: Option<&ByteText>, wanted: &[u8]) -> bool {
-    text.is_some_and(|text| text.as_bytes() == wanted)
+    match text {
+        Some(text) => text.as_bytes() == wanted,
+        None => false,
+    }
 }
 
-// Whether a case has these dumps and, at these places, these change texts.
+fn are_dumps(dumps: &Texts, wanted: &[&[u8]]) -> bool {
+    for (place, dump) in wanted.iter().enumerate() {
+        if !is_text(dumps.get(place), dump) {
+            return false;
+        }
+    }
+    dumps.len() == wanted.len()
+}
+
+// Whether there are ten change texts, and these at their places.
+fn are_changes(changes: &Texts, wanted: &[(usize, &[u8])]) -> bool {
+    for (place, text) in wanted {
+        if !is_text(changes.get(*place), text) {
+            return false;
+        }
+    }
+    changes.len() == 10
+}
+
 fn has_texts(case: &Case, dumps: &[&[u8]], changes: &[(usize, &[u8])]) -> bool {
-    case.dumps.len() == dumps.len()
-        && dumps
-            .iter()
-            .enumerate()
-            .all(|(place, dump)| is_text(case.dumps.get(place), dump))
-        && case.changes.len() == 10
-        && changes
-            .iter()
-            .all(|(place, text)| is_text(case.changes.get(*place), text))
+    case.spec.as_bytes() == SPEC
+        && are_dumps(&case.dumps, dumps)
+        && are_changes(&case.changes, changes)
+}
+
+fn smallest_is_told(alloc: Global) -> Result<bool, NoMemory> {
+    let case = make_case(alloc, 0, 1)?;
+    Ok(has_texts(&case, SMALLEST_DUMPS, SMALLEST_CHANGES))
+}
+
+fn ten_employees_are_told(alloc: Global) -> Result<bool, NoMemory> {
+    let case = make_case(alloc, 3, 10)?;
+    Ok(has_texts(&case, TEN_DUMPS, TEN_CHANGES))
 }
 
 #[test]
 fn smallest_case(rt: HostRuntime) -> Result<(), Fail> {
-    let case = make_case(rt.alloc(), 0, 1)?;
-    assert!(rt; case.spec.as_bytes() == SPEC);
-    assert!(rt; has_texts(&case, SMALLEST_DUMPS, SMALLEST_CHANGES));
+    assert!(rt; smallest_is_told(rt.alloc())?);
     Ok(())
 }
 
 #[test]
 fn ten_employees(rt: HostRuntime) -> Result<(), Fail> {
-    let case = make_case(rt.alloc(), 3, 10)?;
-    assert!(rt; case.spec.as_bytes() == SPEC);
-    assert!(rt; has_texts(&case, TEN_DUMPS, TEN_CHANGES));
+    assert!(rt; ten_employees_are_told(rt.alloc())?);
     Ok(())
 }
