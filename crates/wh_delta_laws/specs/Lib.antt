@@ -1,0 +1,5 @@
+pub mod Connected
+pub mod ConnectedLaws
+pub mod Deltas
+pub mod Grouping
+pub mod Laws

@@ -1,0 +1,90 @@
+//! The laws of views and complements under a change of the state, each as the clause of a function that does nothing.
+#![tactic(auto)]
+
+ghost use Rattle.wh_delta_laws.specs.ConnectedLaws.{OutwardOrderIsOrder, OutwardOrderIsExact, ConnectedHasOrders, OrderSharesColumns};
+ghost use Rattle.wh_delta_laws.specs.Laws.{EnteredHasNewRow, CandidatesAreRows, EnteredAreCandidates, LeftAreCandidates, ViewIsChanged, EnteredAreGiven, LeftAreGiven, DerivationsAgree, FewerRowsGiveFewer, ViewGoesRowByRow, FewerRowsAreState, ViewInAnyGrouping, ViewInAnyOrder};
+
+/// A row that entered a view is given by a row that entered a member.
+pub fn entered_has_new_row()
+    ensures { EnteredHasNewRow }
+{}
+
+/// Each candidate is a row of the view.
+pub fn candidates_are_rows()
+    ensures { CandidatesAreRows }
+{}
+
+/// The rows that entered a view are the candidates that it had not.
+pub fn entered_are_candidates()
+    ensures { EnteredAreCandidates }
+{}
+
+/// The rows that left a view are the candidates of the change back that it has no longer.
+pub fn left_are_candidates()
+    ensures { LeftAreCandidates }
+{}
+
+/// The changed view is the old one without the rows that leave, and with those that enter.
+pub fn view_is_changed()
+    ensures { ViewIsChanged }
+{}
+
+/// The rows that entered a view, from any lists that have the new rows of its members.
+pub fn entered_are_given()
+    ensures { EnteredAreGiven }
+{}
+
+/// The rows that left a view, from any lists that have the rows that left its members.
+pub fn left_are_given()
+    ensures { LeftAreGiven }
+{}
+
+/// Whether a view has a row is decided by the rows of any one member that agree with it.
+pub fn derivations_agree()
+    ensures { DerivationsAgree }
+{}
+
+/// Some of the rows of a member give rows of the view alone.
+pub fn fewer_rows_give_fewer()
+    ensures { FewerRowsGiveFewer }
+{}
+
+/// Some rows of a member give to the view what each of them gives alone.
+pub fn view_goes_row_by_row()
+    ensures { ViewGoesRowByRow }
+{}
+
+/// A state with some of the rows of a relation is a state.
+pub fn fewer_rows_are_state()
+    ensures { FewerRowsAreState }
+{}
+
+/// The members of a view, grouped in any way, give the rows of the view.
+pub fn view_in_any_grouping()
+    ensures { ViewInAnyGrouping }
+{}
+
+/// The members of a view, joined in any order, give the rows of the view.
+pub fn view_in_any_order()
+    ensures { ViewInAnyOrder }
+{}
+
+/// What is found from a relation of a view is an order that goes outward from it.
+pub fn outward_order_is_order()
+    ensures { OutwardOrderIsOrder }
+{}
+
+/// An order is found from a relation of a view exactly where the view is connected.
+pub fn outward_order_is_exact()
+    ensures { OutwardOrderIsExact }
+{}
+
+/// In a connected view there is, for each of its relations, an order that goes outward from it.
+pub fn connected_has_orders()
+    ensures { ConnectedHasOrders }
+{}
+
+/// In such an order each relation shares an attribute with the join of those before it.
+pub fn order_shares_columns()
+    ensures { OrderSharesColumns }
+{}
