@@ -1,3 +1,4 @@
 pub mod Connected
 pub mod Deltas
 pub mod Grouping
+pub mod KeyValues

@@ -2,6 +2,7 @@
 #![tactic(auto)]
 
 ghost use Rattle.wh_delta_laws.specs.ConnectedLaws.{OutwardOrderIsOrder, OutwardOrderIsExact, ConnectedHasOrders, OrderSharesColumns};
+ghost use Rattle.wh_delta_laws.specs.KeyLaws.{ComplementKeysAreCarried, CarriedKeysAreListed, ComplementIsChanged, CoveredGoesByKey, ComplementGoesByKey, PieceGoesByKey, PieceHasRowOfKey, CoveredWhereCoverHasKey, ComplementWhereNothingCovers};
 ghost use Rattle.wh_delta_laws.specs.Laws.{EnteredHasNewRow, CandidatesAreRows, EnteredAreCandidates, LeftAreCandidates, ViewIsChanged, EnteredAreGiven, LeftAreGiven, DerivationsAgree, FewerRowsGiveFewer, ViewGoesRowByRow, FewerRowsAreState, ViewInAnyGrouping, ViewInAnyOrder};
 
 /// A row that entered a view is given by a row that entered a member.
@@ -87,4 +88,49 @@ pub fn connected_has_orders()
 /// In such an order each relation shares an attribute with the join of those before it.
 pub fn order_shares_columns()
     ensures { OrderSharesColumns }
+{}
+
+/// Where a row left or entered a complement, its key value is carried by a row that left or entered.
+pub fn complement_keys_are_carried()
+    ensures { ComplementKeysAreCarried }
+{}
+
+/// The list of carried key values has exactly those that are carried.
+pub fn carried_keys_are_listed()
+    ensures { CarriedKeysAreListed }
+{}
+
+/// The changed complement, from the old one and the rows with the carried key values.
+pub fn complement_is_changed()
+    ensures { ComplementIsChanged }
+{}
+
+/// The covered rows with a key value, from the rows of the pieces with it.
+pub fn covered_goes_by_key()
+    ensures { CoveredGoesByKey }
+{}
+
+/// The rows of a complement with a key value, from the rows of the relation and of its pieces with it.
+pub fn complement_goes_by_key()
+    ensures { ComplementGoesByKey }
+{}
+
+/// The rows of a piece with a key value, from the rows of its source with it.
+pub fn piece_goes_by_key()
+    ensures { PieceGoesByKey }
+{}
+
+/// In a legal state a piece has at one key value no row but the projection of the relation's row.
+pub fn piece_has_row_of_key()
+    ensures { PieceHasRowOfKey }
+{}
+
+/// In a legal state a row is covered exactly where each piece of some cover has a row with its key value.
+pub fn covered_where_cover_has_key()
+    ensures { CoveredWhereCoverHasKey }
+{}
+
+/// In a legal state a row is in the complement exactly where the covers give nothing at its key value.
+pub fn complement_where_nothing_covers()
+    ensures { ComplementWhereNothingCovers }
 {}
