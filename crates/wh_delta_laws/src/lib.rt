@@ -2,6 +2,7 @@
 #![tactic(auto)]
 
 ghost use Rattle.wh_delta_laws.specs.ConnectedLaws.{OutwardOrderIsOrder, OutwardOrderIsExact, ConnectedHasOrders, OrderSharesColumns};
+ghost use Rattle.wh_delta_laws.specs.Example.{ShopIsMaintained, SellerStays, ShopCarriesKeys, ChainHasOrders};
 ghost use Rattle.wh_delta_laws.specs.KeyLaws.{ComplementKeysAreCarried, CarriedKeysAreListed, ComplementIsChanged, CoveredGoesByKey, ComplementGoesByKey, PieceGoesByKey, PieceHasRowOfKey, CoveredWhereCoverHasKey, ComplementWhereNothingCovers};
 ghost use Rattle.wh_delta_laws.specs.Laws.{EnteredHasNewRow, CandidatesAreRows, EnteredAreCandidates, LeftAreCandidates, ViewIsChanged, EnteredAreGiven, LeftAreGiven, DerivationsAgree, FewerRowsGiveFewer, ViewGoesRowByRow, FewerRowsAreState, ViewInAnyGrouping, ViewInAnyOrder};
 
@@ -133,4 +134,24 @@ pub fn covered_where_cover_has_key()
 /// In a legal state a row is in the complement exactly where the covers give nothing at its key value.
 pub fn complement_where_nothing_covers()
     ensures { ComplementWhereNothingCovers }
+{}
+
+/// What a change of the shop takes out of its view and puts into it.
+pub fn shop_is_maintained()
+    ensures { ShopIsMaintained }
+{}
+
+/// A row with two derivations stays when one of them goes.
+pub fn seller_stays()
+    ensures { SellerStays }
+{}
+
+/// The key values of clerks that the change carries, and what their complement has at each.
+pub fn shop_carries_keys()
+    ensures { ShopCarriesKeys }
+{}
+
+/// The orders of a view over a chain of relations, and that its ends alone have none.
+pub fn chain_has_orders()
+    ensures { ChainHasOrders }
 {}
