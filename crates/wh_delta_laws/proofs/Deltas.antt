@@ -87,7 +87,7 @@ module _ (t : State) (i : ℕ) (l : i < length t) (rows : List Row) where
 -- ---- a view
 
 module _ (spec : Spec) (wf : WellFormed spec) where
-  member_below : (t : State) → IsState spec t → (j : ℕ) → j < length spec.views → (i : ℕ) → Contains (view_at spec j).relations i → i < length t
+  pub member_below : (t : State) → IsState spec t → (j : ℕ) → j < length spec.views → (i : ℕ) → Contains (view_at spec j).relations i → i < length t
   member_below t st j l i h =
       let below = (wf.views (view_at spec j) (Contains-get_or spec.views j _ l)).members i h in
       subst (λ n. i < n) (sym st.relations) below

@@ -1,7 +1,8 @@
 -- The members of a view, joined in any grouping, give the rows of the view.
-use Rattle.std.proofs.Common.{◌≡◌, ◌⊎◌, ◌↔◌, ℕ, suc, ◌<◌, Bool, true, List, [], ◌∷◌, ◌++◌, map, filter, fold, length, get_or, Contains, refl, sym, ◌∙◌, ap, subst, inl, inr, pos, if◌then◌else◌, append_assoc}
+use Rattle.std.proofs.Common.{◌≡◌, ◌⊎◌, ◌↔◌, ℕ, suc, ◌<◌, Bool, true, List, [], ◌∷◌, ◌++◌, map, filter, fold, length, get_or, set, Contains, refl, sym, ◌∙◌, ap, subst, inl, inr, pos, if◌then◌else◌, append_assoc}
 use Rattle.std.proofs.lemmas.List.{append-nil}
 use Rattle.std.proofs.lemmas.List.Elements.{Contains-get_or, Contains-append_left, Contains-append_right, Contains-append_cases}
+use Rattle.std.specs.List.{flat_map}
 use Rattle.wh_base.specs.declared.cond.Cond.{Cond, fold-Cond}
 use Rattle.wh_base.specs.declared.cond.Cond.TheOpen.{Cond-F}
 use Rattle.wh_base.specs.declared.cond.Operand.{Operand}
@@ -13,14 +14,17 @@ use Rattle.wh_base.specs.Cond.{holds, holds_at, satisfies, operand_value}
 use Rattle.wh_base.specs.RowSet.{SameRows}
 use Rattle.wh_base.specs.Tables.{Table, join, join_all}
 use Rattle.wh_base.specs.Value.{value_cmp}
-use Rattle.wh_base.proofs.InOrder.{SameRows-from}
+use Rattle.wh_base.proofs.InOrder.{SameMembers-from, SameRows-from}
 use Rattle.wh_schema.specs.declared.spec.Spec.{Spec}
 use Rattle.wh_schema.specs.Legality.{WellFormed, IsState}
 use Rattle.wh_schema.specs.Warehouse.{Row, State, columns_of, view_at, table_of, view_table}
-use Rattle.wh_laws.proofs.Lists.{Contains-nil, Contains-here, Contains-there, Contains-cases, Contains-is, filter_in, filter_from, map_in, map_from, map_same, map_agree}
+use Rattle.wh_laws.proofs.Lists.{Contains-nil, Contains-here, Contains-there, Contains-cases, Contains-is, filter_in, filter_from, map_in, map_from, map_same, map_agree, flat_in, flat_from}
 use Rattle.wh_laws.proofs.Equality.{Name, name_eq_decides, name_is_in, is_false, others_from}
 use Rattle.wh_laws.proofs.Joins.{AllFit, value_of-map, cut-map, cut-gives, fits-is, fits-values, join_from, join_in, left_column, right_column, column_in}
 use Rattle.wh_laws.proofs.Views.{state_fits, view_from, view_in}
+use Rattle.wh_delta_laws.specs.Deltas.{candidates_from}
+use Rattle.wh_delta_laws.specs.Laws.{AreAmong}
+use Rattle.wh_delta_laws.proofs.Deltas.{among_from, fewer_state, member_below}
 use Rattle.wh_delta_laws.specs.Grouping.{Grouping, one, both, members, grouped, view_over, grouped_view, ordered_view}
 
 -- ---- a condition on a row that an assignment gives reads the assignment alone
@@ -243,3 +247,22 @@ any_order spec wf s st j l (i ∷ is) same =
     let Q : Table → Type 0 = λ z. SameRows (view_over spec j z).rows (view_table spec s j).rows in
     let listed : P (members g) = subst P (sym (left_deep_members (one i) is)) same in
     subst Q (sym (left_deep_table spec s (one i) is)) (any_grouping spec wf s st j l g listed)
+
+-- the candidates, by an order for each member
+pub candidates_in_orders : (spec : Spec) → WellFormed spec → (t : State) → IsState spec t → (j : ℕ) → j < length spec.views
+    → (rows : ℕ → List Row) → ((i : ℕ) → Contains (view_at spec j).relations i → AreAmong (rows i) (get_or t i []))
+    → (orders : ℕ → List ℕ) → ((i : ℕ) → Contains (view_at spec j).relations i → (k : ℕ) → Contains (orders i) k ↔ Contains (view_at spec j).relations k)
+    → SameRows (candidates_from spec t j rows) (flat_map (λ i. (ordered_view spec (set t i (rows i)) j (orders i)).rows) (view_at spec j).relations)
+candidates_in_orders spec wf t st j l rows sub orders same =
+    let members = (view_at spec j).relations in
+    let plain : ℕ → List Row = λ i. (view_table spec (set t i (rows i)) j).rows in
+    let ordered : ℕ → List Row = λ i. (ordered_view spec (set t i (rows i)) j (orders i)).rows in
+    let below : (i : ℕ) → Contains members i → i < length t = λ i m. member_below spec wf t st j l i m in
+    let states : (i : ℕ) → Contains members i → IsState spec (set t i (rows i)) = λ i m.
+    fewer_state t i (below i m) (rows i) spec st (among_from (rows i) (get_or t i []) (sub i m)) in
+    let each : (i : ℕ) → Contains members i → (w : Row) → Contains (ordered i) w ↔ Contains (plain i) w = λ i m.
+    SameMembers-from (ordered i) (plain i) (any_order spec wf (set t i (rows i)) (states i m) j l (orders i) (same i m)) in
+    SameRows-from _ _ (λ w. (
+      λ h. let a = flat_from plain members w h in flat_in ordered members a.0 w a.1 ((each a.0 a.1 w).1 a.2),
+      λ h. let a = flat_from ordered members w h in flat_in plain members a.0 w a.1 ((each a.0 a.1 w).0 a.2),
+    ))

@@ -26,7 +26,7 @@ use Rattle.wh_laws.proofs.Subsets.{subsets_members}
 use Rattle.wh_laws.proofs.Covered.{holds_from, pieces_from, pieces_in, covered_sound, complement_from, complement_in}
 use Rattle.wh_laws.proofs.Changes.{complement_same_at_key}
 use Rattle.wh_delta_laws.proofs.Deltas.{without_in, without_from}
-use Rattle.wh_delta_laws.specs.KeyValues.{changed_rows, view_key, inclusion_key, relation_carries, view_carries, inclusion_carries, carried_keys, RelationCarries, ViewCarries, InclusionCarries, IsCarried, rows_with_key, rows_of_others, at_values, piece_at, joined_at, covered_at, complement_at, CoverHasKey}
+use Rattle.wh_delta_laws.specs.KeyValues.{changed_rows, view_key, inclusion_key, relation_carries, view_carries, inclusion_carries, carried_keys, RelationCarries, ViewCarries, InclusionCarries, IsCarried, rows_with_key, rows_of_others, rows_of_keys, at_values, piece_at, joined_at, covered_at, complement_at, CoverHasKey}
 
 -- ---- rows that changed
 
@@ -300,39 +300,91 @@ module _ (spec : Spec) (wf : WellFormed spec) (r : ℕ) (l : r < length spec.rel
 
 -- ---- the changed complement
 
-pub complement_changed : (spec : Spec) → WellFormed spec → (r : ℕ) → r < length spec.relations → (s t : State)
-    → (keys : List Row) → ((k : Row) → IsCarried spec s t r k → has keys k ≡ true)
-    → SameRows (complement spec (sources_of spec t) r) (rows_of_others spec r keys (complement spec (sources_of spec s) r) ++ flat_map (complement_at spec (sources_of spec t) r) keys)
-complement_changed spec wf r l s t keys all =
-    let old = complement spec (sources_of spec s) r in
-    let new = complement spec (sources_of spec t) r in
-    let others = rows_of_others spec r keys old in
-    let made = flat_map (complement_at spec (sources_of spec t) r) keys in
-    let other : Row → Bool = λ x. not (has keys (key_value spec r x)) in
-    -- a row whose key value is none of these is in both complements or in none
-    let quiet : (x : Row) → (Contains keys (key_value spec r x) → ⊥) → has old x ≡ has new x = λ x n.
-    let k = key_value spec r x in
-    complement_same_at_key spec wf r l s t k (quiet_in spec s t r k (λ c. n ((has_decides keys k).0 (all k c)))) x refl in
-    SameRows-from _ _ (λ x. (
-      λ h.
-          let k = key_value spec r x in
-          elim (row_is_in keys k) [
-            | inl m ↦ Contains-append_right others made x (flat_in (complement_at spec (sources_of spec t) r) keys k x m (complement_at_in spec wf r l (sources_of spec t) k x refl h))
-            | inr n ↦
-                let there : Contains old x = (has_decides old x).0 (quiet x n ∙ (has_decides new x).1 h) in
-                Contains-append_left others made x (filter_in other old x there (is_not_in (has keys k) (has_decides keys k) n))
-          ],
-      λ h.
-          elim (Contains-append_cases others made x h) [
-            | inl a ↦
-                let k = key_value spec r x in
-                let b = filter_from other old x a in
-                (has_decides new x).0 (sym (quiet x (is_not (has keys k) (has_decides keys k) b.1)) ∙ (has_decides old x).1 b.0)
-            | inr a ↦
-                let b = flat_from (complement_at spec (sources_of spec t) r) keys x a in
-                (complement_at_from spec wf r l (sources_of spec t) b.0 x b.2).0
-          ],
-    ))
+module _ (spec : Spec) (wf : WellFormed spec) (r : ℕ) (l : r < length spec.relations) (s t : State) (keys : List Row) (all : (k : Row) → IsCarried spec s t r k → has keys k ≡ true) where
+  abbrev old : List Row
+  old = complement spec (sources_of spec s) r
+
+  abbrev new : List Row
+  new = complement spec (sources_of spec t) r
+
+  abbrev others : List Row
+  others = rows_of_others spec r keys old
+
+  abbrev made : List Row
+  made = flat_map (complement_at spec (sources_of spec t) r) keys
+
+  -- a row whose key value is none of these is in both complements or in none
+  quiet : (x : Row) → (Contains keys (key_value spec r x) → ⊥) → has old x ≡ has new x
+  quiet x n =
+      let k = key_value spec r x in
+      complement_same_at_key spec wf r l s t k (quiet_in spec s t r k (λ c. n ((has_decides keys k).0 (all k c)))) x refl
+
+  made_in : (x : Row) → Contains keys (key_value spec r x) → Contains new x → Contains made x
+  made_in x m h =
+      flat_in (complement_at spec (sources_of spec t) r) keys (key_value spec r x) x m
+      (complement_at_in spec wf r l (sources_of spec t) (key_value spec r x) x refl h)
+
+  made_from : (x : Row) → Contains made x → Contains new x
+  made_from x h =
+      let a = flat_from (complement_at spec (sources_of spec t) r) keys x h in
+      (complement_at_from spec wf r l (sources_of spec t) a.0 x a.2).0
+
+  pub complement_changed : SameRows new (others ++ made)
+  complement_changed =
+      let other : Row → Bool = λ x. not (has keys (key_value spec r x)) in
+      SameRows-from _ _ (λ x. (
+        λ h.
+            let k = key_value spec r x in
+            elim (row_is_in keys k) [
+              | inl m ↦ Contains-append_right others made x (made_in x m h)
+              | inr n ↦
+                  let there : Contains old x = (has_decides old x).0 (quiet x n ∙ (has_decides new x).1 h) in
+                  Contains-append_left others made x (filter_in other old x there (is_not_in (has keys k) (has_decides keys k) n))
+            ],
+        λ h.
+            elim (Contains-append_cases others made x h) [
+              | inl a ↦
+                  let k = key_value spec r x in
+                  let b = filter_from other old x a in
+                  (has_decides new x).0 (sym (quiet x (is_not (has keys k) (has_decides keys k) b.1)) ∙ (has_decides old x).1 b.0)
+              | inr a ↦ made_from x a
+            ],
+      ))
+
+  -- a row that left or entered has one of these key values
+  left_key : (x : Row) → Contains old x → (Contains new x → ⊥) → Contains keys (key_value spec r x)
+  left_key x h n =
+      elim (row_is_in keys (key_value spec r x)) [
+        | inl m ↦ m
+        | inr d ↦ absurd (n ((has_decides new x).0 (sym (quiet x d) ∙ (has_decides old x).1 h)))
+      ]
+
+  entered_key : (x : Row) → Contains new x → (Contains old x → ⊥) → Contains keys (key_value spec r x)
+  entered_key x h n =
+      elim (row_is_in keys (key_value spec r x)) [
+        | inl m ↦ m
+        | inr d ↦ absurd (n ((has_decides old x).0 (quiet x d ∙ (has_decides new x).1 h)))
+      ]
+
+  pub left_given : SameRows (without old new) (without (rows_of_keys spec r keys old) made)
+  left_given =
+      let mine : Row → Bool = λ x. has keys (key_value spec r x) in
+      SameRows-from _ _ (λ x. (
+        λ h.
+            let a = without_from old new x h in
+            let m = (has_decides keys (key_value spec r x)).1 (left_key x a.0 a.1) in
+            without_in (rows_of_keys spec r keys old) made x (filter_in mine old x a.0 m) (λ k. a.1 (made_from x k)),
+        λ h.
+            let a = without_from (rows_of_keys spec r keys old) made x h in
+            let b = filter_from mine old x a.0 in
+            without_in old new x b.0 (λ k. a.1 (made_in x ((has_decides keys (key_value spec r x)).0 b.1) k)),
+      ))
+
+  pub entered_given : SameRows (without new old) (without made old)
+  entered_given = SameRows-from _ _ (λ x. (
+    λ h. let a = without_from new old x h in without_in made old x (made_in x (entered_key x a.0 a.1) a.0) a.1,
+    λ h. let a = without_from made old x h in without_in new old x (made_from x a.0) a.1,
+  ))
 
 -- ---- legal states
 

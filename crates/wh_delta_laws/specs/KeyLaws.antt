@@ -3,14 +3,14 @@ use Rattle.std.specs.Prelude.{◌≡◌, ◌↔◌, ℕ, ◌<◌, List, [], ◌+
 use Rattle.std.specs.List.{flat_map}
 use Rattle.wh_base.specs.Columns.{cut}
 use Rattle.wh_base.specs.RowSet.{has, SameRows}
-use Rattle.wh_base.specs.Tables.{project}
+use Rattle.wh_base.specs.Tables.{project, without}
 use Rattle.wh_schema.specs.declared.piece.Piece.{Piece}
 use Rattle.wh_schema.specs.declared.spec.Spec.{Spec}
 use Rattle.wh_schema.specs.Changes.{Changed}
 use Rattle.wh_schema.specs.Legality.{WellFormed}
 use Rattle.wh_schema.specs.Warehouse.{Row, State, Sources, columns_of, key_of, key_value, sources_of, pieces, piece_base, covered, complement}
 use Rattle.wh_laws.specs.Laws.{LegalState}
-use Rattle.wh_delta_laws.specs.KeyValues.{carried_keys, IsCarried, rows_with_key, rows_of_others, at_values, piece_at, covered_at, complement_at, CoverHasKey}
+use Rattle.wh_delta_laws.specs.KeyValues.{carried_keys, IsCarried, rows_with_key, rows_of_others, rows_of_keys, at_values, piece_at, covered_at, complement_at, CoverHasKey}
 
 -- ---- which key values a change carries
 
@@ -35,6 +35,24 @@ ComplementIsChanged =
     → SameRows
     (complement spec (sources_of spec t) r)
     (rows_of_others spec r keys (complement spec (sources_of spec s) r) ++ flat_map (complement_at spec (sources_of spec t) r) keys)
+
+-- the rows that left the complement are those with such a key value that are not among the rows so given
+abbrev pub LeftComplementIsGiven : Type 0
+LeftComplementIsGiven =
+    (spec : Spec) → WellFormed spec → (r : ℕ) → r < length spec.relations → (s t : State)
+    → (keys : List Row) → ((k : Row) → IsCarried spec s t r k → has keys k ≡ true)
+    → let old = complement spec (sources_of spec s) r in
+    let given = flat_map (complement_at spec (sources_of spec t) r) keys in
+    SameRows (without old (complement spec (sources_of spec t) r)) (without (rows_of_keys spec r keys old) given)
+
+-- and those that entered it are the rows so given that it had not
+abbrev pub EnteredComplementIsGiven : Type 0
+EnteredComplementIsGiven =
+    (spec : Spec) → WellFormed spec → (r : ℕ) → r < length spec.relations → (s t : State)
+    → (keys : List Row) → ((k : Row) → IsCarried spec s t r k → has keys k ≡ true)
+    → let old = complement spec (sources_of spec s) r in
+    let given = flat_map (complement_at spec (sources_of spec t) r) keys in
+    SameRows (without (complement spec (sources_of spec t) r) old) (without given old)
 
 -- ---- the rows with a key value
 

@@ -83,6 +83,10 @@ rows_with_key spec r k rows = matching (columns_of spec r) (key_of spec r) k row
 abbrev pub rows_of_others : Spec → ℕ → List Row → List Row → List Row
 rows_of_others spec r keys rows = filter (λ x. not (has keys (key_value spec r x))) rows
 
+-- the rows of a relation whose key value is one of these
+abbrev pub rows_of_keys : Spec → ℕ → List Row → List Row → List Row
+rows_of_keys spec r keys rows = filter (λ x. has keys (key_value spec r x)) rows
+
 -- the rows of a table with these values at the names
 abbrev pub at_values : List (List ℕ) → Row → Table → Table
 at_values names values t = record { columns = t.columns; rows = matching t.columns names values t.rows }

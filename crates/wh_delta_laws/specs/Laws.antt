@@ -112,3 +112,14 @@ ViewInAnyOrder =
     (spec : Spec) → WellFormed spec → (s : State) → IsState spec s → (j : ℕ) → j < length spec.views
     → (order : List ℕ) → ((i : ℕ) → Contains order i ↔ Contains (view_at spec j).relations i)
     → SameRows (ordered_view spec s j order).rows (view_table spec s j).rows
+
+-- So the candidates come from the join of each member's rows with the other members, one after another in an order of its own.
+abbrev pub CandidatesInOrders : Type 0
+CandidatesInOrders =
+    (spec : Spec) → WellFormed spec → (t : State) → IsState spec t → (j : ℕ) → j < length spec.views
+    → (rows : ℕ → List Row) → ((i : ℕ) → Contains (view_at spec j).relations i → AreAmong (rows i) (get_or t i []))
+    → (orders : ℕ → List ℕ)
+    → ((i : ℕ) → Contains (view_at spec j).relations i → (k : ℕ) → Contains (orders i) k ↔ Contains (view_at spec j).relations k)
+    → SameRows
+    (candidates_from spec t j rows)
+    (flat_map (λ i. (ordered_view spec (set t i (rows i)) j (orders i)).rows) (view_at spec j).relations)

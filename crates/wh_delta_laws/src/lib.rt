@@ -3,8 +3,8 @@
 
 ghost use Rattle.wh_delta_laws.specs.ConnectedLaws.{OutwardOrderIsOrder, OutwardOrderIsExact, ConnectedHasOrders, OrderSharesColumns};
 ghost use Rattle.wh_delta_laws.specs.Example.{ShopIsMaintained, SellerStays, ShopCarriesKeys, ChainHasOrders};
-ghost use Rattle.wh_delta_laws.specs.KeyLaws.{ComplementKeysAreCarried, CarriedKeysAreListed, ComplementIsChanged, CoveredGoesByKey, ComplementGoesByKey, PieceGoesByKey, PieceHasRowOfKey, CoveredWhereCoverHasKey, ComplementWhereNothingCovers};
-ghost use Rattle.wh_delta_laws.specs.Laws.{EnteredHasNewRow, CandidatesAreRows, EnteredAreCandidates, LeftAreCandidates, ViewIsChanged, EnteredAreGiven, LeftAreGiven, DerivationsAgree, FewerRowsGiveFewer, ViewGoesRowByRow, FewerRowsAreState, ViewInAnyGrouping, ViewInAnyOrder};
+ghost use Rattle.wh_delta_laws.specs.KeyLaws.{ComplementKeysAreCarried, CarriedKeysAreListed, ComplementIsChanged, LeftComplementIsGiven, EnteredComplementIsGiven, CoveredGoesByKey, ComplementGoesByKey, PieceGoesByKey, PieceHasRowOfKey, CoveredWhereCoverHasKey, ComplementWhereNothingCovers};
+ghost use Rattle.wh_delta_laws.specs.Laws.{EnteredHasNewRow, CandidatesAreRows, EnteredAreCandidates, LeftAreCandidates, ViewIsChanged, EnteredAreGiven, LeftAreGiven, DerivationsAgree, FewerRowsGiveFewer, ViewGoesRowByRow, FewerRowsAreState, ViewInAnyGrouping, ViewInAnyOrder, CandidatesInOrders};
 
 /// A row that entered a view is given by a row that entered a member.
 pub fn entered_has_new_row()
@@ -71,6 +71,11 @@ pub fn view_in_any_order()
     ensures { ViewInAnyOrder }
 {}
 
+/// The candidates, by an order of the members for each of them.
+pub fn candidates_in_orders()
+    ensures { CandidatesInOrders }
+{}
+
 /// What is found from a relation of a view is an order that goes outward from it.
 pub fn outward_order_is_order()
     ensures { OutwardOrderIsOrder }
@@ -104,6 +109,16 @@ pub fn carried_keys_are_listed()
 /// The changed complement, from the old one and the rows with the carried key values.
 pub fn complement_is_changed()
     ensures { ComplementIsChanged }
+{}
+
+/// The rows that left a complement, from its rows and the rows given at the carried key values.
+pub fn left_complement_is_given()
+    ensures { LeftComplementIsGiven }
+{}
+
+/// The rows that entered a complement, from the rows given at the carried key values.
+pub fn entered_complement_is_given()
+    ensures { EnteredComplementIsGiven }
 {}
 
 /// The covered rows with a key value, from the rows of the pieces with it.
