@@ -1,0 +1,3 @@
+mod Attributes
+mod Orders
+mod Turns
