@@ -1,3 +1,4 @@
 mod Attributes
+mod Joins
 mod Orders
 mod Turns
