@@ -1,4 +1,4 @@
-use Rattle.std.proofs.Common.{◌∙◌, refl, arith, get_or, sym}
+use Rattle.std.proofs.Common.{◌∙◌, refl, arith, get_or}
 use Rattle.wh_eval.specs.Relation.{table_of}
 use Rattle.wh_expr.specs.Meaning.{tables}
 use Rattle.wh_delta.proofs.Joins.{joined_with_more, shares_next}
