@@ -1,0 +1,4 @@
+mod Attributes
+mod Joins
+mod Orders
+mod Turns

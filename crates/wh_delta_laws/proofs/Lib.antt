@@ -1,0 +1,5 @@
+pub mod Connected
+pub mod Deltas
+pub mod Example
+pub mod Grouping
+pub mod KeyValues
