@@ -1,0 +1,6 @@
+pub mod Outcome
+pub mod Disks
+pub mod Program
+pub mod Ends
+pub mod Answers
+pub mod Opens
