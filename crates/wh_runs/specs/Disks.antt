@@ -1,6 +1,7 @@
 -- What two disks tell, and what a crash may leave of them.
 use Rattle.std.specs.Prelude.{◌≡◌, ◌⊎◌, ℕ, List, Option, Some}
 use Rattle.wh_io.specs.Crash.{Only, Within}
+use Rattle.wh_io.specs.declared.disk.Disk.{Ghosts}
 use Rattle.wh_runs.specs.Outcome.{Contents}
 
 -- What a form of disk tells: the content, how often the device has failed, how many bytes were read, what a crash now may leave, the moment,
@@ -12,6 +13,17 @@ pub record Form (D : Type 0) : Type 1 where
   pub images : D → List ℕ → Type 0
   pub moment : D → ℕ
   pub images_since : D → ℕ → List ℕ → Type 0
+
+-- that of a type of disks
+abbrev pub form : {D : Type 0} → Ghosts D → Form D
+form disk = record {
+  content = disk.content;
+  faults = disk.faults;
+  reads = disk.reads;
+  images = disk.images;
+  moment = disk.moment;
+  images_since = disk.images_since;
+}
 
 pub record Disks (D : Type 0) : Type 0 where
   pub first : D

@@ -1,7 +1,7 @@
 // Both files are opened.
 ghost use Rattle.std.specs.Prelude.{is_err};
 ghost use Rattle.wh_io.specs.Causes.{IsCountedPair};
-ghost use Rattle.wh_runs.specs.Disks.{Tells};
+ghost use Rattle.wh_runs.specs.Disks.{Tells, form};
 ghost use Rattle.wh_runs.specs.Opens.{FirstComesFirst, Opens, OpensSafely, ReadsNothing};
 ghost use Rattle.wh_runs.specs.Outcome.{Contents};
 
@@ -10,11 +10,11 @@ use wh_io::Disk;
 
 /// Settles what is pending in both files, the first one first.
 pub fn open_both<D: Disk>(first: &mut D, second: &mut D) -> Result<(), Failed>
-    ensures state { (c : Contents) → Tells (record { content = D.content; faults = D.faults; reads = D.reads; images = D.images; moment = D.moment; images_since = D.images_since }) (record { first = first.old; second = second.old }) c
-        → Opens (record { content = D.content; faults = D.faults; reads = D.reads; images = D.images; moment = D.moment; images_since = D.images_since }) (record { first = first.old; second = second.old }) (record { first = first.new; second = second.new }) c result }
-    ensures crash { OpensSafely (record { content = D.content; faults = D.faults; reads = D.reads; images = D.images; moment = D.moment; images_since = D.images_since }) (record { first = first.old; second = second.old }) (record { first = first.new; second = second.new }) }
-    ensures order { FirstComesFirst (record { content = D.content; faults = D.faults; reads = D.reads; images = D.images; moment = D.moment; images_since = D.images_since }) (record { first = first.old; second = second.old }) (record { first = first.new; second = second.new }) }
-    ensures reads { ReadsNothing (record { content = D.content; faults = D.faults; reads = D.reads; images = D.images; moment = D.moment; images_since = D.images_since }) (record { first = first.old; second = second.old }) (record { first = first.new; second = second.new }) }
+    ensures state { (c : Contents) → Tells (form D.Disk) (record { first = first.old; second = second.old }) c
+        → Opens (form D.Disk) (record { first = first.old; second = second.old }) (record { first = first.new; second = second.new }) c result }
+    ensures crash { OpensSafely (form D.Disk) (record { first = first.old; second = second.old }) (record { first = first.new; second = second.new }) }
+    ensures order { FirstComesFirst (form D.Disk) (record { first = first.old; second = second.old }) (record { first = first.new; second = second.new }) }
+    ensures reads { ReadsNothing (form D.Disk) (record { first = first.old; second = second.old }) (record { first = first.new; second = second.new }) }
     ensures cause { IsCountedPair (is_err result) (D.faults first.old) (D.faults first.new) (D.faults second.old) (D.faults second.new) }
 {
     match first.sync() {
