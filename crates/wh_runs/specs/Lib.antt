@@ -4,3 +4,5 @@ pub mod Program
 pub mod Ends
 pub mod Answers
 pub mod Opens
+pub mod History
+pub mod Laws
