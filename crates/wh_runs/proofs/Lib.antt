@@ -1,0 +1,4 @@
+pub mod Means
+pub mod Kept
+pub mod OneRun
+pub mod Histories

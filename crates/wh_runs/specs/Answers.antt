@@ -2,10 +2,10 @@
 use Rattle.std.specs.Prelude.{◌≡◌, ◌⊎◌, ℕ, ◌+◌, ◌≤◌, Bool, true, false, List, Option, None, Some}
 use Rattle.wh_io.specs.Causes.{IsCounted, IsCountedPair}
 use Rattle.wh_io.specs.Files.{Held}
-use Rattle.wh_runs.specs.Outcome.{Contents, Finish, done, refused, is_refused, is_read_fault, is_write_fault, is_disk_fault}
+use Rattle.wh_runs.specs.Outcome.{Contents, Finish, done, is_refused, is_read_fault, is_write_fault, is_disk_fault}
 use Rattle.wh_runs.specs.Disks.{Form, Disks, Tells, Leaves, Stands, CrashPair}
 use Rattle.wh_runs.specs.Ends.{Seen, Ends, Crashes}
-use Rattle.wh_runs.specs.Program.{Program, Profile, expected, IsLed}
+use Rattle.wh_runs.specs.Program.{Program, expected, IsLed}
 
 -- a claim of the status at the end
 abbrev pub OnDone : {S R : Type 0} → (S → Type 0) → Finish S R → Type 0

@@ -1,5 +1,5 @@
 -- Histories of runs and kills, and what they make of two empty files.
-use Rattle.std.specs.Prelude.{◌≡◌, ◌⊎◌, ℕ, suc, ◌<◌, List, [], ◌∷◌, length, take, Option, Some}
+use Rattle.std.specs.Prelude.{◌≡◌, ◌⊎◌, ℕ, suc, ◌<◌, List, [], ◌∷◌, length, take, Some}
 use Rattle.wh_io.specs.Files.{Held}
 use Rattle.wh_io.specs.Sink.{gained, GainsPrefix}
 use Rattle.wh_runs.specs.Outcome.{Contents, empty, Piece, Finish, done, refused, read_fault, no_memory, write_fault, disk_fault, texts, text_at}

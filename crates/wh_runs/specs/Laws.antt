@@ -1,10 +1,10 @@
 -- What follows of every run, and of every history of runs. Each law is one over all forms of disks, all programs, and all objects that read
 -- files by name.
-use Rattle.std.specs.Prelude.{◌≡◌, ◌⊎◌, ℕ, ◌-◌, ◌^◌, ◌<◌, Bool, true, false, List, ◌∷◌, take, Some}
+use Rattle.std.specs.Prelude.{◌≡◌, ◌⊎◌, ℕ, ◌-◌, ◌^◌, ◌<◌, false, List, ◌∷◌, take, Some}
 use Rattle.wh_io.specs.Files.{Held}
 use Rattle.wh_io.specs.Sink.{gained, GainsPrefix}
 use Rattle.wh_runs.specs.Outcome.{Contents, Outcome, Finish, done, refused, read_fault, no_memory, is_disk_fault, texts, last_contents}
-use Rattle.wh_runs.specs.Disks.{Form, Disks, Tells, Leaves, Rests, Keeps, CrashPair}
+use Rattle.wh_runs.specs.Disks.{Form, Tells, Leaves, Rests, Keeps, CrashPair}
 use Rattle.wh_runs.specs.Program.{Program, expected, steps_over, led, HaveNoChange}
 use Rattle.wh_runs.specs.Ends.{Seen, RestsOn}
 use Rattle.wh_runs.specs.Answers.{Answers}
