@@ -2,3 +2,4 @@ pub mod Means
 pub mod Kept
 pub mod OneRun
 pub mod Histories
+pub mod Refused

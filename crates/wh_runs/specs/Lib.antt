@@ -6,3 +6,5 @@ pub mod Answers
 pub mod Opens
 pub mod History
 pub mod Laws
+pub mod Counter
+pub mod Rows
