@@ -52,9 +52,9 @@ module _ {F D : Type 0} (form : Form D) (program : Program) (sound : IsSound pro
 
     between : EndsBetween form (expected program run.command run.held run.start) run.seen → (c : Contents) → Leaves form run.seen.after.disks c → Behind (MadeBetween program run) c
     between ends c left =
-        ⊎_elim (λ rests. (outcome_start, at_start, record { k = ends.k; printed = ends.printed; is = rests_to ends.k c rests left }))
+        ⊎_elim (λ rests. (outcome_start, at_start, record { k = ends.k; within = ends.within; printed = ends.printed; is = rests_to ends.k c rests left }))
         (λ kept. (program.format.meaning c, entry c (no_more form run.seen.before.disks run.seen.after.disks c kept.1.no_more left),
-            record { k = ends.k; printed = ends.printed; is = none_to ends.k (program.format.meaning c) kept.0 }))
+            record { k = ends.k; within = ends.within; printed = ends.printed; is = none_to ends.k (program.format.meaning c) kept.0 }))
         (stands_on form (program.profile run.command).is_apart run.seen.before.disks run.seen.after.disks _ ends.k apart ends.state)
 
     in_text : EndsInText form (expected program run.command run.held run.start) run.seen → (c : Contents) → Leaves form run.seen.after.disks c → Behind (MadeInText program run) c
@@ -69,9 +69,9 @@ module _ {F D : Type 0} (form : Form D) (program : Program) (sound : IsSound pro
     in_commit ends c left = by_case (commits_on form program run.command run.held run.start run.seen (program.profile run.command).is_apart ends.k c apart ends.state left)
       where
         by_case : IsAround program.format.meaning form (expected program run.command run.held run.start) run.seen.before.disks ends.k c → Behind (MadeInCommit program run) c
-        by_case (inl is) = (outcome_start, at_start, record { k = ends.k; printed = ends.printed; is = inl (led_to ends.k c is) })
-        by_case (inr (inl is)) = (outcome_start, at_start, record { k = ends.k; printed = ends.printed; is = inr (led_to (suc ends.k) c is) })
-        by_case (inr (inr kept)) = (program.format.meaning c, entry c kept.1, record { k = ends.k; printed = ends.printed; is = inl (none_to ends.k (program.format.meaning c) kept.0) })
+        by_case (inl is) = (outcome_start, at_start, record { k = ends.k; within = ends.within; printed = ends.printed; is = inl (led_to ends.k c is) })
+        by_case (inr (inl is)) = (outcome_start, at_start, record { k = ends.k; within = ends.within; printed = ends.printed; is = inr (led_to (suc ends.k) c is) })
+        by_case (inr (inr kept)) = (program.format.meaning c, entry c kept.1, record { k = ends.k; within = ends.within; printed = ends.printed; is = inl (none_to ends.k (program.format.meaning c) kept.0) })
 
     -- a refusal has no pieces, so nothing was printed and the contents are as at entry
     turned : (reason : program.Refusal) → EndsRefused form (expected program run.command run.held run.start) run.seen reason → (c : Contents) → Leaves form run.seen.after.disks c → Behind (MadeNothing program run) c
@@ -123,8 +123,8 @@ module _ {F D : Type 0} (form : Form D) (program : Program) (sound : IsSound pro
         → Behind (MadeBy program run finish) c
     off_files (done status) blames ends = (here, older, record { printed = ends.printed; is = all_nowhere })
     off_files (refused reason) blames ends = (here, older, record { printed = nothing_printed reason ends; is = refl })
-    off_files (read_fault name) blames ends = (here, older, record { k = ends.between.k; printed = ends.between.printed; is = led_nowhere ends.between.k })
-    off_files no_memory blames ends = (here, older, record { k = ends.k; printed = ends.printed; is = led_nowhere ends.k })
+    off_files (read_fault name) blames ends = (here, older, record { k = ends.between.k; within = ends.between.within; printed = ends.between.printed; is = led_nowhere ends.between.k })
+    off_files no_memory blames ends = (here, older, record { k = ends.k; within = ends.within; printed = ends.printed; is = led_nowhere ends.k })
     off_files write_fault blames ends = (here, older, record { k = ends.k; within = ends.within; printed = ends.printed; is = led_nowhere (suc ends.k) })
     off_files disk_fault blames ends = absurd (cc (blames))
 

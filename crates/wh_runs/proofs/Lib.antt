@@ -3,3 +3,4 @@ pub mod Kept
 pub mod OneRun
 pub mod Histories
 pub mod Refused
+pub mod Behind

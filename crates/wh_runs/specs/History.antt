@@ -5,7 +5,7 @@ use Rattle.wh_io.specs.Sink.{gained, GainsPrefix}
 use Rattle.wh_runs.specs.Outcome.{Contents, empty, Piece, Finish, done, refused, read_fault, no_memory, write_fault, disk_fault, texts, text_at}
 use Rattle.wh_runs.specs.Disks.{Form, Disks, Tells, Leaves, Rests, NoMore, CrashPair}
 use Rattle.wh_runs.specs.Program.{Program, expected, steps_over, led}
-use Rattle.wh_runs.specs.Ends.{Seen}
+use Rattle.wh_runs.specs.Ends.{Seen, IsUnderWay}
 use Rattle.wh_runs.specs.Answers.{Answers}
 
 -- a run came to its exit, or a crash cut it off and left this
@@ -82,9 +82,10 @@ module _ {F D : Type 0} (program : Program) (run : Run F D program) where
     pub printed : run.seen.after.out ≡ run.seen.before.out
     pub is : m ≡ s
 
-  -- cut off between two pieces: the changes of exactly the texts that were printed
+  -- cut off while something was still to do: the changes of exactly the texts that were printed
   pub record MadeBetween (s m : program.format.Meaning) : Type 0 where
     pub k : ℕ
+    pub within : IsUnderWay (expected program run.command run.held run.start) k
     pub printed : HasPrinted k
     pub is : m ≡ first_steps s k
 
@@ -98,6 +99,7 @@ module _ {F D : Type 0} (program : Program) (run : Run F D program) where
   -- cut off by a disk: those of the texts that were printed, and at most the one under way
   pub record MadeInCommit (s m : program.format.Meaning) : Type 0 where
     pub k : ℕ
+    pub within : IsUnderWay (expected program run.command run.held run.start) k
     pub printed : HasPrinted k
     pub is : (m ≡ first_steps s k) ⊎ (m ≡ first_steps s (suc k))
 

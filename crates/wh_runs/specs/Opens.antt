@@ -1,7 +1,7 @@
 -- Both files are opened: what is pending is settled, and nothing is written.
 use Rattle.std.specs.Prelude.{◌≡◌, ◌⊎◌, Result, Ok, Err}
 use Rattle.wh_base.specs.declared.Failed.{Failed}
-use Rattle.wh_io.specs.Crash.{IsSettled}
+use Rattle.wh_io.specs.Crash.{IsSettled, Within}
 use Rattle.wh_runs.specs.Outcome.{Contents}
 use Rattle.wh_runs.specs.Disks.{Form, Disks, Tells, Leaves, Rests, Keeps, Which, CrashPair}
 
@@ -22,3 +22,9 @@ pub record ReadsNothing {D : Type 0} (form : Form D) (before after : Disks D) : 
 -- the second disk is as it was, unless nothing is pending on the first
 abbrev pub FirstComesFirst : {D : Type 0} → Form D → Disks D → Disks D → Type 0
 FirstComesFirst form before after = (after.second ≡ before.second) ⊎ IsSettled (form.content after.first) (form.images after.first)
+
+-- a disk that was not written: the same is told, and nothing may be left, now or at any moment since, that might not have been left before
+pub record IsUnwritten {D : Type 0} (form : Form D) (before after : D) : Type 0 where
+  pub same : form.content after ≡ form.content before
+  pub within : Within (form.images before) (form.images after)
+  pub since : Within (form.images before) (form.images_since after (form.moment before))

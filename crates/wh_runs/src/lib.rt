@@ -8,7 +8,7 @@ mod program;
 mod rows;
 
 pub use laws::{
-    asking_keeps, crash_reaches, done_is_exact, faultless_is_planned, headline, keeps_acknowledged,
+    asking_keeps, crash_reaches, crashes_behind, done_is_exact, faultless_is_planned, headline, keeps_acknowledged,
     quiet_reads_nothing, refusal_keeps, refusal_rests, settled_crash_reaches,
     settled_keeps_acknowledged,
 };
