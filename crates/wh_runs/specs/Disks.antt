@@ -29,6 +29,9 @@ pub record Disks (D : Type 0) : Type 0 where
   pub first : D
   pub second : D
 
+abbrev pub both : {D : Type 0} → D → D → Disks D
+both first second = record { first = first; second = second }
+
 -- they tell these contents
 pub record Tells {D : Type 0} (form : Form D) (disks : Disks D) (c : Contents) : Type 0 where
   pub first : form.content disks.first ≡ Some c.first
@@ -83,7 +86,9 @@ other second_file = first_file
 
 -- A pair that a crash at one moment of a run may leave, where one file is written last. It may be left at entry; or while the other one is
 -- written, beside what the last one held at entry; or while the last one is written, beside what the other one holds at exit, where it is no
--- image of the last one from before the run; or at exit.
+-- image of the last one from before the run (where that was pending at entry, it never stood beside what was written since); or at exit.
+-- That the other one is written while writes to the last one are still pending shows at the exits alone: any later call of a disk may fail, and
+-- what may be left then is a pair of the old and the new.
 pub data CrashPair {D : Type 0} (form : Form D) (last : Which) (start : Contents) (before after : Disks D) (c : Contents) : Type 0 where
   at_entry : Leaves form before c → CrashPair form last start before after c
   while_other : form.images_since (disk_at (other last) after) (form.moment (disk_at (other last) before)) (part (other last) c)

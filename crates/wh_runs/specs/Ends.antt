@@ -46,7 +46,7 @@ pub record EndsRefused {F D S R : Type 0} (form : Form D) (outcome : Outcome S R
   pub printed : seen.after.out ≡ gained seen.before.out (texts outcome.pieces)
   pub state : StandsOn outcome.is_apart form seen.before.disks seen.after.disks (last_contents outcome.start outcome.pieces) (length outcome.pieces)
 
--- something was still to do once k pieces were done
+-- something was still to do once k pieces were done: another piece, or, of a command without pieces, its only answer
 abbrev pub IsUnderWay : {S R : Type 0} → Outcome S R → ℕ → Type 0
 IsUnderWay outcome k = k < max 1 (length outcome.pieces)
 
@@ -62,7 +62,7 @@ pub record EndsInReading {F D S R : Type 0} (form : Form D) (outcome : Outcome S
   pub between : EndsBetween form outcome seen
   pub named : outcome.may_read between.k name
 
--- it was cut off in the text of piece k, whose contents stand
+-- It was cut off in the text of piece k, whose contents stand. A command on the two files settles them before its first text.
 pub record EndsInText {F D S R : Type 0} (form : Form D) (outcome : Outcome S R) (seen : Seen F D) : Type 0 where
   pub k : ℕ
   pub within : k < length outcome.pieces

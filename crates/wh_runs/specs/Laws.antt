@@ -116,7 +116,10 @@ SettledKeepsAcknowledged F form program = (command : program.Command) (held : He
 -- ---- histories
 
 -- Over any history of runs and kills that begins with two empty files: whatever may be left of the files at its end means what its runs made of
--- nothing; it means what only these commands have written; and so does what the last run began on, over which its plan was told.
+-- nothing, and what files mean that only these commands have written; the last run began on what the runs before it made, and told its plan.
+--
+-- Nothing is said of what stood on `out` when a crash cut a run off. No change is lost whose text was begun before: at any moment behind that
+-- text the next call of a disk may fail, so some run ends there with that fault, and what may be left of it has the change.
 pub record Headline (F : Type 0) {D : Type 0} (form : Form D) (program : Program) : Type 0 where
   pub left : (run : Run F D program) (older : List (Run F D program)) → IsHistory form program (run ∷ older)
       → (c : Contents) → IsLeft form run.seen.after.disks run.stop c → IsMade program (run ∷ older) (program.format.meaning c)

@@ -5,10 +5,14 @@ use Rattle.wh_io.specs.Crash.{IsSettled, Within}
 use Rattle.wh_runs.specs.Outcome.{Contents}
 use Rattle.wh_runs.specs.Disks.{Form, Disks, Tells, Leaves, Rests, Keeps, Which, CrashPair}
 
--- Nothing is pending, or a disk failed; the bytes are as they were, and nothing may be left that might not have been left before.
+-- Of two disks that tell these contents: the bytes are as they were, and nothing is pending; or, where a disk failed, nothing may be left that
+-- might not have been left before.
 abbrev pub Opens : {D : Type 0} → Form D → Disks D → Disks D → Contents → Result (Unit {0}) Failed → Type 0
 Opens form before after c (Ok done) = Rests form after c
 Opens form before after c (Err failed) = Keeps form before after c
+
+abbrev pub OpensBoth : {D : Type 0} → Form D → Disks D → Disks D → Result (Unit {0}) Failed → Type 0
+OpensBoth form before after result = (c : Contents) → Tells form before c → Opens form before after c result
 
 -- whatever a crash leaves meanwhile might have been left at entry
 abbrev pub OpensSafely : {D : Type 0} → Form D → Disks D → Disks D → Type 0
@@ -28,3 +32,7 @@ pub record IsUnwritten {D : Type 0} (form : Form D) (before after : D) : Type 0 
   pub same : form.content after ≡ form.content before
   pub within : Within (form.images before) (form.images after)
   pub since : Within (form.images before) (form.images_since after (form.moment before))
+
+pub record AreUnwritten {D : Type 0} (form : Form D) (before after : Disks D) : Type 0 where
+  pub first : IsUnwritten form before.first after.first
+  pub second : IsUnwritten form before.second after.second

@@ -1,4 +1,16 @@
-//! What a run of a command may come to.
+//! What a run of a command may come to, whatever the command.
+//!
+//! A command works over two files and is told by a `Program`: a format, which says what the bytes of both files are held to mean and how a change
+//! of that is written; and for each command a profile, which says what it comes to over that meaning, as texts and changes, apart from how these
+//! are written. From both follow its outcome over bytes, the ways in which a run may end, by which device failed, and the pairs of files that a
+//! crash at any moment may leave. Who has commands says that they obey the format (`Commands`), and proves that each run answers what it should.
+//! The laws of this crate then hold of every run, and of every history of runs and kills: what may be left of both files at its end means what
+//! the runs made of two empty files.
+//!
+//! What stands here speaks of bytes, texts, exits, crashes and histories alone, and holds of any format, commands, statuses and refusals, of any
+//! form of disks, and of any object that reads files by name. What a store holds, its frames, the words that name a command, its statuses and the
+//! lines on `err` stand above, beside the commands. The only code is what all commands on the two files do first: both are opened. A counter in
+//! two files is the example on which the definitions are tried, and bodies are shown that they refuse.
 #![tactic(auto)]
 
 mod counter;
