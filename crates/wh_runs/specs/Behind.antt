@@ -1,10 +1,11 @@
--- What a crash leaves of a command that settles both files first, and then writes the one and, if at all, the other behind it.
+-- What is asked of a crash, from what a command does: it writes neither file; or it settles both first, and then writes the one and, if at
+-- all, the other behind it.
 use Rattle.std.specs.Prelude.{◌≡◌, ◌⊎◌, ℕ, List, Some}
 use Rattle.wh_io.specs.Files.{Held}
 use Rattle.wh_runs.specs.Outcome.{Contents}
-use Rattle.wh_runs.specs.Disks.{Form, Disks, Tells, Leaves, Which, other, part, disk_at}
+use Rattle.wh_runs.specs.Disks.{Form, Disks, Tells, Leaves, Which, other, part, disk_at, CrashPair, Keeps}
 use Rattle.wh_runs.specs.Ends.{IsReached, Crashes}
-use Rattle.wh_runs.specs.Opens.{IsUnwritten}
+use Rattle.wh_runs.specs.Opens.{IsUnwritten, AreUnwritten}
 use Rattle.wh_runs.specs.Program.{Program, expected}
 
 -- whatever was left since `before` was left since `mid`, or before it
@@ -26,3 +27,11 @@ CrashesBehind form program = (command : program.Command) (held : Held) (start : 
     → Tells form before start → ((which : Which) → IsUnwritten form (disk_at which before) (disk_at which mid))
     → WritesPairs form (program.format.active start) start before mid after (IsReached program.format.meaning (expected program command held start))
     → Crashes program.format.meaning form (program.format.active start) (expected program command held start) before after
+
+-- Where neither file was written the bytes are as they were, and whatever a crash leaves might have been left at entry.
+pub record IsSafe {D : Type 0} (form : Form D) (start : Contents) (before after : Disks D) : Type 0 where
+  pub kept : Keeps form before after start
+  pub crash : (last : Which) (c : Contents) → CrashPair form last start before after c → Leaves form before c
+
+abbrev pub UnwrittenIsSafe : {D : Type 0} → Form D → Type 0
+UnwrittenIsSafe form = (start : Contents) (before after : Disks _) → Tells form before start → AreUnwritten form before after → IsSafe form start before after

@@ -22,7 +22,7 @@ mod rows;
 pub use laws::{
     asking_keeps, crash_reaches, crashes_behind, done_is_exact, faultless_is_planned, headline, keeps_acknowledged,
     quiet_reads_nothing, refusal_keeps, refusal_rests, settled_crash_reaches,
-    settled_keeps_acknowledged,
+    settled_keeps_acknowledged, unwritten_is_safe,
 };
 pub use counter::Counter;
 pub use open::open_both;
