@@ -22,10 +22,10 @@ module _ {D : Type 0} (form : Form D) where
   crashes_behind is_left last start before mid after P told opened writes c (at_entry left) = inr left
   crashes_behind is_left last start before mid after P told opened writes c (at_exit left) = inl (writes.at_exit c left)
   crashes_behind is_left last start before mid after P told opened writes c (while_other since is) =
-      ⊎_elim (λ past. inr (leaves_by last before c ((opened (other last)).since _ past) (subst (form.images (disk_at last before)) (sym is) (left_at last before start (told_left form is_left before start told)))))
+      ⊎_elim (λ past. inr (leaves_by last before c ((opened (other last)).since.each _ past) (subst (form.images (disk_at last before)) (sym is) (left_at last before start (told_left form is_left before start told)))))
       (λ now. inl (writes.other_first c now is)) (writes.goes_on (other last) (part (other last) c) since)
   crashes_behind is_left last start before mid after P told opened writes c (while_last other_told since new) =
-      ⊎_elim (λ past. absurd (new ((opened last).since _ past))) (λ now. inl (writes.then_last c other_told now)) (writes.goes_on last (part last c) since)
+      ⊎_elim (λ past. absurd (new ((opened last).since.each _ past))) (λ now. inl (writes.then_last c other_told now)) (writes.goes_on last (part last c) since)
 
   unwritten_at : (before after : Disks D) → AreUnwritten form before after → (which : Which) → IsUnwritten form (disk_at which before) (disk_at which after)
   unwritten_at before after unwritten first_file = unwritten.first
@@ -36,8 +36,8 @@ module _ {D : Type 0} (form : Form D) where
   no_pair is_left start before after told unwritten last c (at_entry left) = left
   no_pair is_left start before after told unwritten last c (at_exit left) = record { first = unwritten.first.within c.first left.first; second = unwritten.second.within c.second left.second }
   no_pair is_left start before after told unwritten last c (while_other since is) =
-      leaves_by last before c ((unwritten_at before after unwritten (other last)).since _ since) (subst (form.images (disk_at last before)) (sym is) (left_at last before start (told_left form is_left before start told)))
-  no_pair is_left start before after told unwritten last c (while_last other_told since new) = absurd (new ((unwritten_at before after unwritten last).since _ since))
+      leaves_by last before c ((unwritten_at before after unwritten (other last)).since.each _ since) (subst (form.images (disk_at last before)) (sym is) (left_at last before start (told_left form is_left before start told)))
+  no_pair is_left start before after told unwritten last c (while_last other_told since new) = absurd (new ((unwritten_at before after unwritten last).since.each _ since))
 
   pub unwritten_safe : (is_left : (d : D) → IsImage (form.content d) (form.images d)) (start : Contents) (before after : Disks D) → Tells form before start → AreUnwritten form before after → IsSafe form start before after
   unwritten_safe is_left start before after told unwritten = record {

@@ -4,3 +4,4 @@ pub mod OneRun
 pub mod Histories
 pub mod Refused
 pub mod Behind
+pub mod Unwritten

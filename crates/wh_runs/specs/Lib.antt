@@ -8,4 +8,5 @@ pub mod Behind
 pub mod History
 pub mod Laws
 pub mod Counter
+pub mod Asked
 pub mod Rows

@@ -1,7 +1,7 @@
 -- Both files are opened: what is pending is settled, and nothing is written.
 use Rattle.std.specs.Prelude.{◌≡◌, ◌⊎◌, Result, Ok, Err}
 use Rattle.wh_base.specs.declared.Failed.{Failed}
-use Rattle.wh_io.specs.Crash.{IsSettled, Within}
+use Rattle.wh_io.specs.Crash.{IsSettled, LeavesOnly, Within}
 use Rattle.wh_runs.specs.Outcome.{Contents}
 use Rattle.wh_runs.specs.Disks.{Form, Disks, Tells, Leaves, Rests, Keeps, Which, CrashPair}
 
@@ -31,7 +31,7 @@ FirstComesFirst form before after = (after.second ≡ before.second) ⊎ IsSettl
 pub record IsUnwritten {D : Type 0} (form : Form D) (before after : D) : Type 0 where
   pub same : form.content after ≡ form.content before
   pub within : Within (form.images before) (form.images after)
-  pub since : Within (form.images before) (form.images_since after (form.moment before))
+  pub since : LeavesOnly form.moment form.images_since before after (form.images before)
 
 pub record AreUnwritten {D : Type 0} (form : Form D) (before after : Disks D) : Type 0 where
   pub first : IsUnwritten form before.first after.first
