@@ -5,3 +5,4 @@ pub mod Histories
 pub mod Refused
 pub mod Behind
 pub mod Unwritten
+pub mod Asking

@@ -24,7 +24,7 @@ pub use laws::{
     quiet_reads_nothing, refusal_keeps, refusal_rests, settled_crash_reaches,
     settled_keeps_acknowledged, unwritten_is_safe,
 };
-pub use counter::Counter;
+pub use counter::{Counter, NoAnswer, ask};
 pub use open::open_both;
 pub use program::Commands;
 pub use rows::{
