@@ -28,7 +28,8 @@ abbrev pub IsKnown : {D : Type 0} → Bool → Form D → Disks D → Contents �
 IsKnown true form disks start = Unit {0}
 IsKnown false form disks start = Tells form disks start
 
--- A run of a command. Writes may be pending on both disks at entry.
+-- A run of a command: how it ended, and what was seen at entry and at exit. Writes may be pending on both disks at entry; all that has to be known
+-- of them is that they tell their contents.
 pub record Answers {F D : Type 0} (form : Form D) (program : Program) (command : program.Command) (seen : Seen F D) (finish : Finish program.Status program.Refusal) : Type 0 where
   -- one status, each fault with its cause
   pub status : OnDone (program.profile command).ends_with finish

@@ -9,12 +9,13 @@ use Rattle.wh_runs.specs.Program.{Manner, in_place, moves, Format, put, Step, Pl
 
 -- ---- the two files
 
+-- what a file counts
 abbrev pub counted : List ℕ → Option ℕ
 counted [] = None
 counted (zero ∷ rest) = None
 counted (suc n ∷ rest) = Some n
 
--- the second file counts where it does, and else the first
+-- what both do: the second file where it counts, and else the first
 abbrev pub or_else : Option ℕ → Option ℕ → Option ℕ
 or_else (Some n) other = Some n
 or_else None other = other
@@ -22,6 +23,7 @@ or_else None other = other
 abbrev pub count_in : Contents → Option ℕ
 count_in c = or_else (counted c.second) (counted c.first)
 
+-- the file that counts, and its bytes
 abbrev pub active_by : Option ℕ → Which
 active_by (Some n) = second_file
 active_by None = first_file
@@ -36,6 +38,7 @@ pub data Change : Type 0 where
   adds : ℕ → Change
   stays : Change
 
+-- what is counted behind a change
 abbrev pub added : ℕ → Option ℕ → Option ℕ
 added n None = None
 added n (Some count) = Some (count + n)
@@ -45,6 +48,7 @@ changed begins m = Some 0
 changed (adds n) m = added n m
 changed stays m = m
 
+-- which changes may be written: into the file that counts where it begins or goes on, and into the other one where it is moved
 abbrev pub Counts : Option ℕ → Type 0
 Counts None = ⊥
 Counts (Some n) = Unit {0}
@@ -56,6 +60,7 @@ may_write in_place stays m = ⊥
 may_write moves stays m = Counts m
 may_write moves other m = ⊥
 
+-- the format of both files
 abbrev pub format : Format
 format = record {
   Meaning = Option ℕ;
@@ -71,6 +76,7 @@ format = record {
 
 -- ---- the commands
 
+-- what can be asked for, and why it is refused
 pub data Command : Type 0 where
   help : Command
   create : Command
@@ -83,6 +89,7 @@ pub data Refusal : Type 0 where
   not_created : Refusal
   created_before : Refusal
 
+-- the step for each file to add, and the plan of each command
 abbrev pub step_for : Option (List ℕ) → Step Change
 step_for (Some (n ∷ [])) = record { text = codes "added\n"; change = Some (adds n) }
 step_for other = record { text = codes "no number\n"; change = None }
@@ -123,6 +130,7 @@ profile (add names) = record (quiet (planned (add names))) { reads_files = true;
 profile move = record (quiet (planned move)) { manner = moves }
 profile ask = quiet (planned ask)
 
+-- the program
 abbrev pub counter : Program
 counter = record {
   format = format;
@@ -208,6 +216,7 @@ counter_meets (add names) m = tt
 counter_meets move m = tt
 counter_meets ask m = tt
 
+-- its format keeps what it says, and its commands keep to it
 pub counter_sound : IsSound counter
 counter_sound = record {
   means = counter_means;

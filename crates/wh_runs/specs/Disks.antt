@@ -25,6 +25,7 @@ form disk = record {
   images_since = disk.images_since;
 }
 
+-- both disks
 pub record Disks (D : Type 0) : Type 0 where
   pub first : D
   pub second : D
@@ -64,6 +65,7 @@ Stands form before after c k = Rests form after c ⊎ ((k ≡ 0) × Keeps form b
 
 -- ---- crashes
 
+-- one of the two files, its bytes among those of both, the contents with other bytes of it, its disk, and the other file
 pub data Which : Type 0 where
   first_file : Which
   second_file : Which

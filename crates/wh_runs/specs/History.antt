@@ -61,6 +61,7 @@ IsLeft form after (cut pair) c = c ≡ pair
 -- ---- what a run makes of what the files meant
 
 module _ {F D : Type 0} (program : Program) (run : Run F D program) where
+  -- its pieces
   abbrev pub pieces_of : List Piece
   pieces_of = (expected program run.command run.held run.start).pieces
 

@@ -26,6 +26,7 @@ pub data Finish (S R : Type 0) : Type 0 where
   write_fault : Finish S R
   disk_fault : Finish S R
 
+-- how it ended
 abbrev pub is_refused : {S R : Type 0} → Finish S R → Bool
 is_refused (refused reason) = true
 is_refused other = false
@@ -51,6 +52,7 @@ pub record Outcome (S R : Type 0) : Type 1 where
   pub is_apart : Bool
   pub may_read : ℕ → List ℕ → Type 0
 
+-- all texts, one behind another
 abbrev pub texts : List Piece → List ℕ
 texts pieces = flat_map (λ (piece : Piece). piece.text) pieces
 

@@ -44,6 +44,7 @@ pub data Plan (X S R : Type 0) : Type 0 where
   does : List (Step X) → S → Plan X S R
   refuses : R → Plan X S R
 
+-- its steps, and how it finishes
 abbrev pub steps_of : {X S R : Type 0} → Plan X S R → List (Step X)
 steps_of (does steps status) = steps
 steps_of (refuses reason) = []
@@ -52,6 +53,7 @@ abbrev pub finish_of : {X S R : Type 0} → Plan X S R → Finish S R
 finish_of (does steps status) = done status
 finish_of (refuses reason) = refused reason
 
+-- what one step leads to
 abbrev pub step_meaning : (format : Format) → Option format.Change → format.Meaning → format.Meaning
 step_meaning format None m = m
 step_meaning format (Some change) m = format.changed change m
@@ -61,6 +63,7 @@ abbrev pub led : (format : Format) → format.Meaning → List (Step format.Chan
 led format m [] = m
 led format m (step ∷ steps) = led format (step_meaning format step.change m) steps
 
+-- the change of a step, if there is one, may be written
 abbrev pub IsAllowed : (format : Format) → Manner → Option format.Change → format.Meaning → Type 0
 IsAllowed format manner None m = Unit {0}
 IsAllowed format manner (Some change) m = format.allowed manner change m
@@ -76,12 +79,14 @@ pub record IsLed (format : Format) (manner : Manner) (m n : format.Meaning) : Ty
   pub allowed : AreAllowed format manner steps m
   pub is : n ≡ led format m steps
 
+-- they are texts alone
 abbrev pub HaveNoChange : {X : Type 0} → List (Step X) → Type 0
 HaveNoChange [] = Unit {0}
 HaveNoChange (step ∷ steps) = (step.change ≡ None) × HaveNoChange steps
 
 -- ---- how it is written
 
+-- the contents once a step is made, and the pieces of steps
 abbrev pub step_contents : (format : Format) → Manner → Option format.Change → Contents → Contents
 step_contents format manner None c = c
 step_contents format manner (Some change) c = put format manner change c
@@ -94,7 +99,7 @@ pieces_by format manner (step ∷ steps) c =
 
 -- ---- commands
 
--- All in which commands differ.
+-- All in which commands differ. The plan goes over what the files mean, and apart from it stands how it is written.
 pub record Profile (M X S R : Type 0) : Type 1 where
   -- what it comes to, over what files of other names hold and what the two files mean
   pub planned : Held → M → Plan X S R
@@ -111,6 +116,7 @@ pub record Profile (M X S R : Type 0) : Type 1 where
   -- what the plan is told for
   pub premise : M → Type 0
 
+-- A program's commands, over one format.
 pub record Program : Type 1 where
   pub format : Format
   pub Status : Type 0
@@ -138,7 +144,7 @@ expected program command held start =
 
 -- ---- what the user of this crate shows
 
--- Of the format and the commands.
+-- The format keeps what it says, and the commands keep to it.
 pub record IsSound (program : Program) : Type 0 where
   -- the bytes of a change that may be written mean the changed meaning
   pub means : (manner : Manner) (change : program.format.Change) (c : Contents) → program.format.allowed manner change (program.format.meaning c)

@@ -12,6 +12,7 @@ use Rattle.wh_runs.specs.Counter.{Command, create, add, move, ask, created_befor
 
 -- ---- what commands come to
 
+-- contents, pieces, and those of a command of the counter
 abbrev pub pair : List ℕ → List ℕ → Contents
 pair first second = record { first = first; second = second }
 
