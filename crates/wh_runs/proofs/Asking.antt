@@ -1,5 +1,5 @@
 -- The counter's question answers what it should.
-use Rattle.std.proofs.Common.{◌≡◌, inl, inr, ℕ, List, [], ◌∷◌, true, false, Option, None, Some, Result, Ok, Err, refl, sym, ◌∙◌, subst, arith}
+use Rattle.std.proofs.Common.{◌≡◌, inr, ℕ, List, [], ◌∷◌, false, Option, None, Some, Result, Ok, Err, refl, sym, ◌∙◌, subst, arith}
 use Rattle.wh_io.specs.Causes.{IsCounted, IsCountedPair}
 use Rattle.wh_io.specs.Crash.{IsImage}
 use Rattle.wh_io.specs.Files.{Held}
@@ -10,12 +10,12 @@ use Rattle.wh_runs.specs.declared.counter.NoAnswer.TheVariants.{NotCreated, Writ
 use Rattle.wh_runs.specs.Outcome.{Contents, Outcome, Finish, done, refused, read_fault, no_memory, write_fault, disk_fault, is_read_fault, is_write_fault, is_disk_fault}
 use Rattle.wh_runs.specs.Disks.{Form, Disks, Keeps}
 use Rattle.wh_runs.specs.Program.{in_place, steps_of, finish_of, pieces_by}
-use Rattle.wh_runs.specs.Ends.{Scene, Seen, Ends}
+use Rattle.wh_runs.specs.Ends.{Seen, Ends}
 use Rattle.wh_runs.specs.Answers.{Answers, OnDone}
 use Rattle.wh_runs.specs.Asked.{ask_finish, Prints, RestsUnless, AnswersQuestion}
 use Rattle.wh_runs.specs.Counter.{ask, Refusal, planned, format, counter, count_in}
 use Rattle.wh_runs.specs.Opens.{AreUnwritten}
-use Rattle.wh_runs.proofs.Behind.{unwritten_safe}
+use Rattle.wh_runs.proofs.Showing.{unwritten_safe}
 use Rattle.wh_runs.proofs.Kept.{no_more}
 
 module _ {F D : Type 0} (form : Form D) (files : F) (held_now : Option Held) (faults : ℕ) (out out_after : Option (List ℕ)) (out_faults out_faults_after : ℕ) (before after : Disks D) where
@@ -94,7 +94,7 @@ module _ {F D : Type 0} (form : Form D) (files : F) (held_now : Option Held) (fa
         apart = λ apart. absurd (cc (apart));
         reads = λ start told. tt;
         refusal = λ turned start told. inr (refl, (safe start before after told unwritten).kept);
-        led = λ start told c pair. inr ((safe start before after told unwritten).crash _ c pair);
+        led = λ held start is told c pair. inr ((safe start before after told unwritten).crash _ c pair);
         ends = λ held start is told premise.
             ends_at held start (count_in start) result (answer start told).printed (answer start told).rests (safe start before after told unwritten).kept;
         crash = λ held start is told premise c pair. inr ((safe start before after told unwritten).crash _ c pair);

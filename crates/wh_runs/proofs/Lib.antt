@@ -3,6 +3,6 @@ pub mod Kept
 pub mod OneRun
 pub mod Histories
 pub mod Refused
-pub mod Behind
+pub mod Showing
 pub mod Unwritten
 pub mod Asking

@@ -1,5 +1,5 @@
 -- Disks that are not written in several calls.
-use Rattle.std.proofs.Common.{◌≡◌, ◌∙◌}
+use Rattle.std.proofs.Common.{◌∙◌}
 use Rattle.wh_io.proofs.Moments.{leaves_map, leaves_then}
 use Rattle.wh_runs.specs.Disks.{Form}
 use Rattle.wh_runs.specs.Opens.{IsUnwritten}

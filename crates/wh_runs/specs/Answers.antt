@@ -43,7 +43,7 @@ pub record Answers {F D : Type 0} (form : Form D) (program : Program) (command :
   pub reads : (start : Contents) → Tells form seen.before.disks start → ReadsWithin form (program.profile command).read_limit start seen.before.disks seen.after.disks
   -- a refusal changes no byte, and whatever a crash leaves is led to by changes that may be written: also where the premise fails
   pub refusal : is_refused finish ≡ true → (start : Contents) → Tells form seen.before.disks start → Stands form seen.before.disks seen.after.disks start 0
-  pub led : (start : Contents) → Tells form seen.before.disks start
+  pub led : (held : Held) (start : Contents) → seen.before.held ≡ Some held → Tells form seen.before.disks start
       → (c : Contents) → CrashPair form (program.format.active start) start seen.before.disks seen.after.disks c
       → IsLed program.format (program.profile command).manner (program.format.meaning start) (program.format.meaning c) ⊎ Leaves form seen.before.disks c
   -- what it comes to

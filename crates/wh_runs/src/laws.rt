@@ -1,5 +1,4 @@
 // What follows of every run, and of every history of runs. The functions have no code.
-ghost use Rattle.wh_runs.specs.Behind.{CrashesBehind, UnwrittenIsSafe};
 ghost use Rattle.wh_runs.specs.Disks.{form};
 ghost use Rattle.wh_runs.specs.Laws.{DoneIsExact, RefusalKeeps, AskingKeeps, QuietReadsNothing, FaultlessIsPlanned, CrashReaches, KeepsAcknowledged, RefusalRests, SettledCrashReaches, SettledKeepsAcknowledged, Headline};
 
@@ -39,16 +38,6 @@ pub fn crash_reaches<F, D: Disk, C: Commands>()
 /// At every exit whatever a crash leaves has each change whose text was begun.
 pub fn keeps_acknowledged<F, D: Disk, C: Commands>()
     ensures { KeepsAcknowledged F (form D.Disk) C.program }
-{}
-
-/// Where neither file was written, whatever a crash leaves might have been left at entry.
-pub fn unwritten_is_safe<D: Disk>()
-    ensures { UnwrittenIsSafe (form D.Disk) }
-{}
-
-/// A command that settles both files, and then writes one and behind it the other, has what is asked of a crash.
-pub fn crashes_behind<D: Disk, C: Commands>()
-    ensures { CrashesBehind (form D.Disk) C.program }
 {}
 
 /// Where nothing was pending, nothing is after a refusal, and each byte is as it was.

@@ -18,11 +18,12 @@ mod laws;
 mod open;
 mod program;
 mod rows;
+mod shown;
 
 pub use laws::{
-    asking_keeps, crash_reaches, crashes_behind, done_is_exact, faultless_is_planned, headline, keeps_acknowledged,
+    asking_keeps, crash_reaches, done_is_exact, faultless_is_planned, headline, keeps_acknowledged,
     quiet_reads_nothing, refusal_keeps, refusal_rests, settled_crash_reaches,
-    settled_keeps_acknowledged, unwritten_is_safe,
+    settled_keeps_acknowledged,
 };
 pub use counter::{Counter, NoAnswer, ask};
 pub use open::open_both;
@@ -31,4 +32,8 @@ pub use rows::{
     counter_rows, cut_refusal_is_refused, early_emptying_is_refused, late_read_is_refused,
     late_want_is_refused, pending_answer_is_refused, read_behind_question_is_refused,
     silent_change_is_refused,
+};
+pub use shown::{
+    crashes_behind, crashes_in_place, reached_is_led, same_is_unwritten, unbegun_ends,
+    unwritten_is_safe,
 };

@@ -1,8 +1,8 @@
 use Rattle.wh_runs.specs.Disks.{form}
 use Rattle.wh_runs.specs.Ends.{IsReached}
 use Rattle.wh_runs.specs.Program.{expected}
-use Rattle.wh_runs.proofs.Behind.{crashes_behind}
-use Rattle.wh_runs.proofs.laws.crashes_behind.Goals as goal
+use Rattle.wh_runs.proofs.Showing.{crashes_behind}
+use Rattle.wh_runs.proofs.shown.crashes_behind.Goals as goal
 
 pub returns : goal.returns
 returns g c = λ command held start before mid after told opened writes d pair. crashes_behind (form g.D.Disk) g.met.D.Disk.content_is_left (g.C.Commands.program.format.active start) start before mid after
