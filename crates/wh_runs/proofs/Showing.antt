@@ -24,17 +24,6 @@ module _ {D : Type 0} (form : Form D) where
   left_at first_file disks c left = left.first
   left_at second_file disks c left = left.second
 
-  pub crashes_behind : (is_left : (d : D) → IsImage (form.content d) (form.images d)) (last : Which) (start : Contents) (before mid after : Disks D) (P : Contents → Type 0) → Tells form before start
-      → ((which : Which) → IsUnwritten form (disk_at which before) (disk_at which mid)) → WritesPairs form last start before mid after P
-      → (c : Contents) → CrashPair form last start before after c → P c ⊎ Leaves form before c
-  crashes_behind is_left last start before mid after P told opened writes c (at_entry left) = inr left
-  crashes_behind is_left last start before mid after P told opened writes c (at_exit left) = inl (writes.at_exit c left)
-  crashes_behind is_left last start before mid after P told opened writes c (while_other since is) =
-      ⊎_elim (λ past. inr (leaves_by last before c ((opened (other last)).since.each _ past) (subst (form.images (disk_at last before)) (sym is) (left_at last before start (told_left form is_left before start told)))))
-      (λ now. inl (writes.other_first c now is)) (writes.goes_on (other last) (part (other last) c) since)
-  crashes_behind is_left last start before mid after P told opened writes c (while_last other_told since new) =
-      ⊎_elim (λ past. absurd (new ((opened last).since.each _ past))) (λ now. inl (writes.then_last c other_told now)) (writes.goes_on last (part last c) since)
-
   unwritten_at : (before after : Disks D) → AreUnwritten form before after → (which : Which) → IsUnwritten form (disk_at which before) (disk_at which after)
   unwritten_at before after unwritten first_file = unwritten.first
   unwritten_at before after unwritten second_file = unwritten.second
@@ -104,6 +93,30 @@ module _ {D : Type 0} (form : Form D) where
         ⊎_elim (λ past. absurd (new (one.since.each _ past)))
         (λ p. inl (has c (same_bytes _ _ _ content (writes.others.same ∙ other_told last mid start rests)) p))
         (writes.this.before (form.moment (disk_at last before)) (part last c) one.since.later since)
+
+  -- ---- one file, and behind it the other
+
+  module _ (is_left : (d : D) → IsImage (form.content d) (form.images d)) (last : Which) (start : Contents) (before mid after : Disks D) (P : Contents → Type 0)
+      (told : Tells form before start) (opened : AreUnwritten form before mid) (writes : WritesPairs form last start mid after P) where
+    one_other : (last : Which) (c : Contents) → part last c ≡ part last start → with_part (other last) (part (other last) c) start ≡ c
+    one_other first_file c is = λ i. record { first = sym is i; second = c.second }
+    one_other second_file c is = λ i. record { first = c.first; second = sym is i }
+
+    both_parts : (last : Which) (c : Contents) → with_part last (part last c) (with_part (other last) (part (other last) c) start) ≡ c
+    both_parts first_file c = refl
+    both_parts second_file c = refl
+
+    pub behind : (c : Contents) → CrashPair form last start before after c → P c ⊎ Leaves form before c
+    behind c (at_entry left) = inr left
+    behind c (at_exit left) = inl (writes.at_exit c left)
+    behind c (while_other since is) =
+        let one = unwritten_at before mid opened (other last) in
+        ⊎_elim (λ past. inr (leaves_by last before c (one.since.each _ past) (subst (form.images (disk_at last before)) (sym is) (left_at last before start (told_left form is_left before start told)))))
+        (λ p. inl (subst P (one_other last c is) p)) (writes.other_first.before (form.moment (disk_at (other last) before)) (part (other last) c) one.since.later since)
+    behind c (while_last content since new) =
+        let one = unwritten_at before mid opened last in
+        ⊎_elim (λ past. absurd (new (one.since.each _ past))) (λ p. inl (subst P (both_parts last c) p))
+        ((writes.then_last (part (other last) c) content).before (form.moment (disk_at last before)) (part last c) one.since.later since)
 
 -- ---- what is reached is led to
 

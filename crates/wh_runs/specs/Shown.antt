@@ -9,25 +9,7 @@ use Rattle.wh_runs.specs.Ends.{Seen, Ends, IsReached, Crashes}
 use Rattle.wh_runs.specs.Opens.{IsUnwritten, AreUnwritten}
 use Rattle.wh_runs.specs.Program.{Program, expected, IsLed}
 
--- whatever was left since `before` was left since `mid`, or before it
-abbrev pub GoesOn : {D : Type 0} → Form D → D → D → D → Type 0
-GoesOn form before mid after = (x : List ℕ) → form.images_since after (form.moment before) x → form.images_since mid (form.moment before) x ⊎ form.images_since after (form.moment mid) x
-
--- From `mid` on, where both were settled, one file is written and then the last one: a crash leaves only pairs with P.
-pub record WritesPairs {D : Type 0} (form : Form D) (last : Which) (start : Contents) (before mid after : Disks D) (P : Contents → Type 0) : Type 0 where
-  pub goes_on : (which : Which) → GoesOn form (disk_at which before) (disk_at which mid) (disk_at which after)
-  -- while the other one is written, beside what the last one held
-  pub other_first : (c : Contents) → form.images_since (disk_at (other last) after) (form.moment (disk_at (other last) mid)) (part (other last) c) → part last c ≡ part last start → P c
-  -- while the last one is written, beside what the other one holds
-  pub then_last : (c : Contents) → form.content (disk_at (other last) after) ≡ Some (part (other last) c) → form.images_since (disk_at last after) (form.moment (disk_at last mid)) (part last c) → P c
-  pub at_exit : (c : Contents) → Leaves form after c → P c
-
--- Such a command has what is asked of a crash.
-abbrev pub CrashesBehind : {D : Type 0} → Form D → Program → Type 0
-CrashesBehind form program = (command : program.Command) (held : Held) (start : Contents) (before mid after : Disks _)
-    → Tells form before start → ((which : Which) → IsUnwritten form (disk_at which before) (disk_at which mid))
-    → WritesPairs form (program.format.active start) start before mid after (IsReached program.format.meaning (expected program command held start))
-    → Crashes program.format.meaning form (program.format.active start) (expected program command held start) before after
+-- ---- commands that write neither file
 
 -- Where neither file was written the bytes are as they were, and whatever a crash leaves might have been left at entry.
 pub record IsSafe {D : Type 0} (form : Form D) (start : Contents) (before after : Disks D) : Type 0 where
@@ -54,6 +36,25 @@ CrashesInPlace form program = (command : program.Command) (held : Held) (start :
     → Tells form before start → AreUnwritten form before mid → Rests form mid start
     → WritesLast form (program.format.active start) start mid after (IsReached program.format.meaning (expected program command held start))
     → Crashes program.format.meaning form (program.format.active start) (expected program command held start) before after
+
+-- ---- commands that write one file, and behind it the other
+
+-- From `mid` on one file is written, beside what the last one held; and then the last one, beside what the other one holds. What crashes left of
+-- the one and of the other has P so, and so have the pairs that may be left at exit.
+pub record WritesPairs {D : Type 0} (form : Form D) (last : Which) (start : Contents) (mid after : Disks D) (P : Contents → Type 0) : Type 0 where
+  pub other_first : LeavesOnly form.moment form.images_since (disk_at (other last) mid) (disk_at (other last) after) (λ bytes. P (with_part (other last) bytes start))
+  pub then_last : (held : List ℕ) → form.content (disk_at (other last) after) ≡ Some held
+      → LeavesOnly form.moment form.images_since (disk_at last mid) (disk_at last after) (λ bytes. P (with_part last bytes (with_part (other last) held start)))
+  pub at_exit : (c : Contents) → Leaves form after c → P c
+
+-- Such a command has what is asked of a crash.
+abbrev pub CrashesBehind : {D : Type 0} → Form D → Program → Type 0
+CrashesBehind form program = (command : program.Command) (held : Held) (start : Contents) (before mid after : Disks _)
+    → Tells form before start → AreUnwritten form before mid
+    → WritesPairs form (program.format.active start) start mid after (IsReached program.format.meaning (expected program command held start))
+    → Crashes program.format.meaning form (program.format.active start) (expected program command held start) before after
+
+-- ---- any command
 
 -- What some first pieces lead to is led to by changes that may be written.
 abbrev pub ReachedIsLed : Program → Type 0
