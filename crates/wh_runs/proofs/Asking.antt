@@ -1,5 +1,5 @@
 -- The counter's question answers what it should.
-use Rattle.std.proofs.Common.{◌≡◌, inr, ℕ, List, [], ◌∷◌, false, Option, None, Some, Result, Ok, Err, refl, sym, ◌∙◌, subst, arith}
+use Rattle.std.proofs.Common.{◌≡◌, inr, ℕ, ◌%◌, zero, suc, List, [], ◌∷◌, false, Option, Result, Ok, Err, refl, sym, ◌∙◌, subst, arith}
 use Rattle.wh_io.specs.Causes.{IsCounted, IsCountedPair}
 use Rattle.wh_io.specs.Crash.{IsImage}
 use Rattle.wh_io.specs.Files.{Held}
@@ -26,7 +26,7 @@ module _ {F D : Type 0} (form : Form D) (files : F) (held_now : Option Held) (fa
   }
 
   -- what the question comes to where the files count so
-  abbrev outcome_at : Held → Contents → Option ℕ → Outcome (Unit {0}) Refusal
+  abbrev outcome_at : Held → Contents → ℕ → Outcome (Unit {0}) Refusal
   outcome_at held start m = record {
     start = start;
     pieces = pieces_by format in_place (steps_of (planned ask held m)) start;
@@ -38,26 +38,26 @@ module _ {F D : Type 0} (form : Form D) (files : F) (held_now : Option Held) (fa
   nothing : out_after ≡ out → out_after ≡ gained out []
   nothing same = same ∙ sym (gained_nothing out)
 
-  ends_at : (held : Held) (start : Contents) (m : Option ℕ) (result : Result (Unit {0}) NoAnswer) → Prints out out_after m result → RestsUnless form after start result → Keeps form before after start
+  ends_at : (held : Held) (start : Contents) (m : ℕ) (result : Result (Unit {0}) NoAnswer) → Prints out out_after m result → RestsUnless form after start result → Keeps form before after start
       → Ends count_in form (outcome_at held start m) seen (ask_finish result)
-  ends_at held start (Some n) (Ok answer) printed rests keeps = record { is = refl; printed = printed; state = rests }
-  ends_at held start None (Ok answer) printed rests keeps = absurd printed
-  ends_at held start (Some n) (Err WriteFault) printed rests keeps = record {
+  ends_at held start (suc n) (Ok answer) printed rests keeps = record { is = refl; printed = printed; state = rests }
+  ends_at held start zero (Ok answer) printed rests keeps = absurd printed
+  ends_at held start (suc n) (Err WriteFault) printed rests keeps = record {
     k = 0;
     within = omega arith;
-    printed = subst (λ (o : Option (List ℕ)). GainsPrefix o out_after (n ∷ [])) (sym (gained_nothing out)) printed;
+    printed = subst (λ (o : Option (List ℕ)). GainsPrefix o out_after (suc n % 256 ∷ [])) (sym (gained_nothing out)) printed;
     state = rests;
   }
-  ends_at held start None (Err WriteFault) printed rests keeps = absurd printed
-  ends_at held start None (Err NotCreated) printed rests keeps = record { is = refl; printed = nothing printed; state = inr (refl, keeps) }
-  ends_at held start (Some n) (Err NotCreated) printed rests keeps = absurd printed
-  ends_at held start None (Err DiskFault) printed rests keeps = record {
+  ends_at held start zero (Err WriteFault) printed rests keeps = absurd printed
+  ends_at held start zero (Err NotCreated) printed rests keeps = record { is = refl; printed = nothing printed; state = inr (refl, keeps) }
+  ends_at held start (suc n) (Err NotCreated) printed rests keeps = absurd printed
+  ends_at held start zero (Err DiskFault) printed rests keeps = record {
     k = 0;
     within = omega arith;
     printed = nothing printed;
     state = λ c left. inr (inr (refl, no_more form before after c keeps.no_more left));
   }
-  ends_at held start (Some n) (Err DiskFault) printed rests keeps = record {
+  ends_at held start (suc n) (Err DiskFault) printed rests keeps = record {
     k = 0;
     within = omega arith;
     printed = nothing printed;

@@ -29,30 +29,30 @@ module _ (F : Type 0) {D : Type 0} (form : Form D) where
       let ends = (answers.ends two_files (pair (4 ∷ []) []) is told tt).between in
       absurd (cc (late (pieces (add ((1 ∷ []) ∷ [])) two_files (pair (4 ∷ []) [])) seen.before.out seen.after.out (codes "added\n") ends.k ends.within none some ends.printed))
 
-  not_cut : (o : Option (List ℕ)) → o ≡ Some (1 ∷ 9 ∷ []) → o ≡ Some (1 ∷ []) → ⊥
+  not_cut : (o : Option (List ℕ)) → o ≡ Some (9 ∷ []) → o ≡ Some [] → ⊥
   not_cut o a b = absurd (cc (sym a ∙ b))
 
   pub cut_refusal : NoCutRefusal F form
   cut_refusal seen before after answers =
-      ⊎_elim (λ rests. not_cut (form.content seen.after.disks.first) rests.told.first after.first) (λ kept. not_cut (form.content seen.after.disks.first) kept.1.told.first after.first)
-      (answers.refusal refl (pair (1 ∷ 9 ∷ []) []) before)
+      ⊎_elim (λ rests. not_cut (form.content seen.after.disks.second) rests.told.second after.second) (λ kept. not_cut (form.content seen.after.disks.second) kept.1.told.second after.second)
+      (answers.refusal refl (pair (4 ∷ 6 ∷ []) (9 ∷ [])) before)
 
   pub pending_answer : NoPendingAnswer F form
-  pending_answer held seen is told left answers = absurd (cc ((answers.ends held (pair (4 ∷ []) []) is told tt).state.first (3 ∷ []) left.first))
+  pending_answer held seen is told left answers = absurd (cc ((answers.ends held (pair (4 ∷ 6 ∷ []) []) is told tt).state.first (4 ∷ []) left.first))
 
   pub silent_change : NoSilentChange F form
   silent_change held seen is told after answers = absurd (cc (sym (answers.ends held (pair (4 ∷ []) []) is told tt).state.told.first ∙ after.first))
 
   module _ (is_left : (d : D) → IsImage (form.content d) (form.images d)) where
-    not_around : (held : Held) (before : Disks D) → Rests form before (pair (4 ∷ []) []) → IsAround count_in form (expected counter move held (pair (4 ∷ []) [])) before 0 (pair (0 ∷ []) []) → ⊥
+    not_around : (held : Held) (before : Disks D) → Rests form before (pair (4 ∷ []) []) → IsAround count_in form (expected counter move held (pair (4 ∷ []) [])) before 0 empty → ⊥
     not_around held before rests (inl is) = absurd (cc (is))
     not_around held before rests (inr (inl is)) = absurd (cc (is))
-    not_around held before rests (inr (inr kept)) = absurd (cc (rests.first (0 ∷ []) kept.1.first))
+    not_around held before rests (inr (inr kept)) = absurd (cc (rests.first [] kept.1.first))
 
     pub early_emptying : NoEarlyEmptying F form
     early_emptying held seen is rests after answers =
         let ends = answers.ends held (pair (4 ∷ []) []) is rests.told tt in
         let zero_is : ends.k ≡ 0 = omega (arith, ends.within) in
         not_around held seen.before.disks rests
-            (subst (λ (k : ℕ). IsAround count_in form (expected counter move held (pair (4 ∷ []) [])) seen.before.disks k (pair (0 ∷ []) [])) zero_is
-            (ends.state (pair (0 ∷ []) []) (told_left form is_left seen.after.disks (pair (0 ∷ []) []) after)))
+            (subst (λ (k : ℕ). IsAround count_in form (expected counter move held (pair (4 ∷ []) [])) seen.before.disks k empty) zero_is
+            (ends.state empty (told_left form is_left seen.after.disks empty after)))

@@ -1,5 +1,5 @@
 -- How the counter's question is answered.
-use Rattle.std.specs.Prelude.{◌≡◌, ℕ, List, [], ◌∷◌, Option, None, Some, Result, Ok, Err}
+use Rattle.std.specs.Prelude.{◌≡◌, ℕ, ◌%◌, zero, suc, List, [], ◌∷◌, Option, Result, Ok, Err}
 use Rattle.wh_base.specs.declared.Failed.{Failed}
 use Rattle.wh_io.specs.Sink.{gained, GainsPrefix}
 use Rattle.wh_runs.specs.declared.counter.NoAnswer.{NoAnswer}
@@ -16,18 +16,18 @@ ask_finish (Err WriteFault) = write_fault
 ask_finish (Err DiskFault) = disk_fault
 
 -- both files are settled and read, or a disk failed
-abbrev pub IsCounted : {D : Type 0} → Form D → Disks D → Contents → Result (Option ℕ) Failed → Type 0
+abbrev pub IsCounted : {D : Type 0} → Form D → Disks D → Contents → Result ℕ Failed → Type 0
 IsCounted form after c (Ok count) = (count ≡ count_in c) × Rests form after c
 IsCounted form after c (Err failed) = Unit {0}
 
-abbrev pub CountsBoth : {D : Type 0} → Form D → Disks D → Disks D → Result (Option ℕ) Failed → Type 0
+abbrev pub CountsBoth : {D : Type 0} → Form D → Disks D → Disks D → Result ℕ Failed → Type 0
 CountsBoth form before after result = (c : Contents) → Tells form before c → IsCounted form after c result
 
 -- what is printed, of files that count so
-abbrev pub Prints : Option (List ℕ) → Option (List ℕ) → Option ℕ → Result (Unit {0}) NoAnswer → Type 0
-Prints before after (Some n) (Ok answer) = after ≡ gained before (n ∷ [])
-Prints before after (Some n) (Err WriteFault) = GainsPrefix before after (n ∷ [])
-Prints before after None (Err NotCreated) = after ≡ before
+abbrev pub Prints : Option (List ℕ) → Option (List ℕ) → ℕ → Result (Unit {0}) NoAnswer → Type 0
+Prints before after (suc n) (Ok answer) = after ≡ gained before (suc n % 256 ∷ [])
+Prints before after (suc n) (Err WriteFault) = GainsPrefix before after (suc n % 256 ∷ [])
+Prints before after zero (Err NotCreated) = after ≡ before
 Prints before after count (Err DiskFault) = after ≡ before
 Prints before after count other = ⊥
 

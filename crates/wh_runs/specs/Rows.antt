@@ -22,35 +22,37 @@ piece text contents = record { text = text; contents = contents }
 abbrev pub pieces : Command → Held → Contents → List Piece
 pieces command held start = (expected counter command held start).pieces
 
--- the file `1` holds the number 2, the file `2` holds two numbers, and there is no other
+-- the file `1` holds one byte, the file `2` holds two, and there is no other
 abbrev pub two_files : Held
-two_files name = if bytes_eq name (1 ∷ []) then Some (2 ∷ []) else if bytes_eq name (2 ∷ []) then Some (7 ∷ 8 ∷ []) else None
+two_files name = if bytes_eq name (1 ∷ []) then Some (5 ∷ []) else if bytes_eq name (2 ∷ []) then Some (7 ∷ 8 ∷ []) else None
 
--- What is behind a mark that closes the first file is written over.
+-- Where nothing is counted the first file has its first byte.
 abbrev pub CreatesFirst : Type 0
-CreatesFirst = (held : Held) → pieces create held (pair (0 ∷ 9 ∷ []) []) ≡ piece (codes "created\n") (pair (1 ∷ []) []) ∷ []
+CreatesFirst = (held : Held) → pieces create held empty ≡ piece (codes "created\n") (pair (1 ∷ []) []) ∷ []
 
--- Each accepted file has its change beside its text, and another one its text alone.
+-- Each accepted file has its change beside its text, and another one its text alone; the shorter file keeps its bytes.
 abbrev pub AddsInPlace : Type 0
-AddsInPlace = pieces (add ((1 ∷ []) ∷ (2 ∷ []) ∷ (1 ∷ []) ∷ [])) two_files (pair (0 ∷ []) (4 ∷ []))
-    ≡ piece (codes "added\n") (pair (0 ∷ []) (6 ∷ [])) ∷ piece (codes "no number\n") (pair (0 ∷ []) (6 ∷ [])) ∷ piece (codes "added\n") (pair (0 ∷ []) (8 ∷ [])) ∷ []
+AddsInPlace = pieces (add ((1 ∷ []) ∷ (2 ∷ []) ∷ (1 ∷ []) ∷ [])) two_files (pair (9 ∷ []) (4 ∷ 6 ∷ []))
+    ≡ piece (codes "added\n") (pair (9 ∷ []) (4 ∷ 6 ∷ 1 ∷ []))
+    ∷ piece (codes "not added\n") (pair (9 ∷ []) (4 ∷ 6 ∷ 1 ∷ []))
+    ∷ piece (codes "added\n") (pair (9 ∷ []) (4 ∷ 6 ∷ 1 ∷ 1 ∷ [])) ∷ []
 
 -- All is moved into the other file, and the one that counted is emptied.
 abbrev pub MovesOver : Type 0
-MovesOver = (held : Held) → (pieces move held (pair (4 ∷ []) []) ≡ piece (codes "moved\n") (pair (0 ∷ []) (4 ∷ [])) ∷ [])
-    × (pieces move held (pair (0 ∷ []) (4 ∷ [])) ≡ piece (codes "moved\n") (pair (4 ∷ []) (0 ∷ [])) ∷ [])
+MovesOver = (held : Held) → (pieces move held (pair (4 ∷ 6 ∷ []) (9 ∷ [])) ≡ piece (codes "moved\n") (pair [] (4 ∷ 6 ∷ [])) ∷ [])
+    × (pieces move held (pair [] (4 ∷ 6 ∷ [])) ≡ piece (codes "moved\n") (pair (4 ∷ 6 ∷ []) []) ∷ [])
 
 -- A question has its answer, and each byte stays.
 abbrev pub AsksOnly : Type 0
-AsksOnly = (held : Held) (rest : List ℕ) → pieces ask held (pair (4 ∷ rest) []) ≡ piece (3 ∷ []) (pair (4 ∷ rest) []) ∷ []
+AsksOnly = (held : Held) → pieces ask held (pair (4 ∷ 6 ∷ []) (9 ∷ [])) ≡ piece (2 ∷ []) (pair (4 ∷ 6 ∷ []) (9 ∷ [])) ∷ []
 
 -- What is refused has no pieces.
 abbrev pub RefusesAgain : Type 0
-RefusesAgain = (held : Held) (rest : List ℕ) → ((expected counter create held (pair (4 ∷ rest) [])).finish ≡ refused created_before) × (pieces create held (pair (4 ∷ rest) []) ≡ [])
+RefusesAgain = (held : Held) → ((expected counter create held (pair (4 ∷ []) [])).finish ≡ refused created_before) × (pieces create held (pair (4 ∷ []) []) ≡ [])
 
 -- ---- bodies that are refused
 
--- A program that creates the files, prints its line, and then answers that there was no memory.
+-- A program that creates the counter, prints its line, and then answers that there was no memory.
 abbrev pub NoLateWant : (F : Type 0) {D : Type 0} → Form D → Type 0
 NoLateWant F form = (held : Held) (seen : Seen F _) → seen.before.held ≡ Some held → Tells form seen.before.disks empty
     → seen.before.out ≡ Some [] → seen.after.out ≡ Some (codes "created\n") → Answers form counter create seen no_memory → ⊥
@@ -60,9 +62,9 @@ abbrev pub NoLateRead : (F : Type 0) {D : Type 0} → Form D → Type 0
 NoLateRead F form = (seen : Seen F _) (name : List ℕ) → seen.before.held ≡ Some two_files → Tells form seen.before.disks (pair (4 ∷ []) [])
     → seen.before.out ≡ Some [] → seen.after.out ≡ Some (codes "added\n") → Answers form counter (add ((1 ∷ []) ∷ [])) seen (read_fault name) → ⊥
 
--- One that refuses to create what is there, but has cut off what stood behind it.
+-- One that refuses to create what is there, but has cut off bytes that mean nothing.
 abbrev pub NoCutRefusal : (F : Type 0) {D : Type 0} → Form D → Type 0
-NoCutRefusal F form = (seen : Seen F _) → Tells form seen.before.disks (pair (1 ∷ 9 ∷ []) []) → Tells form seen.after.disks (pair (1 ∷ []) [])
+NoCutRefusal F form = (seen : Seen F _) → Tells form seen.before.disks (pair (4 ∷ 6 ∷ []) (9 ∷ [])) → Tells form seen.after.disks (pair (4 ∷ 6 ∷ []) [])
     → Answers form counter create seen (refused created_before) → ⊥
 
 -- One that reads a file of another name before it answers a question, as the object that counts its reads shows.
@@ -71,15 +73,15 @@ NoReadBehindQuestion form = (seen : Seen ℕ _) → seen.before.files ≡ 0 → 
 
 -- One that answers a question from what is still pending.
 abbrev pub NoPendingAnswer : (F : Type 0) {D : Type 0} → Form D → Type 0
-NoPendingAnswer F form = (held : Held) (seen : Seen F _) → seen.before.held ≡ Some held → Tells form seen.before.disks (pair (4 ∷ []) [])
-    → Leaves form seen.after.disks (pair (3 ∷ []) []) → Answers form counter ask seen (done tt) → ⊥
+NoPendingAnswer F form = (held : Held) (seen : Seen F _) → seen.before.held ≡ Some held → Tells form seen.before.disks (pair (4 ∷ 6 ∷ []) [])
+    → Leaves form seen.after.disks (pair (4 ∷ []) []) → Answers form counter ask seen (done tt) → ⊥
 
 -- One that empties the old file before the new one stands, when the write of the new one fails.
 abbrev pub NoEarlyEmptying : (F : Type 0) {D : Type 0} → Form D → Type 0
 NoEarlyEmptying F form = (held : Held) (seen : Seen F _) → seen.before.held ≡ Some held → Rests form seen.before.disks (pair (4 ∷ []) [])
-    → Tells form seen.after.disks (pair (0 ∷ []) []) → Answers form counter move seen disk_fault → ⊥
+    → Tells form seen.after.disks empty → Answers form counter move seen disk_fault → ⊥
 
--- One that adds a number of which nothing is told.
+-- One that counts one more and tells nothing of it.
 abbrev pub NoSilentChange : (F : Type 0) {D : Type 0} → Form D → Type 0
 NoSilentChange F form = (held : Held) (seen : Seen F _) → seen.before.held ≡ Some held → Tells form seen.before.disks (pair (4 ∷ []) [])
-    → Tells form seen.after.disks (pair (5 ∷ []) []) → Answers form counter (add []) seen (done tt) → ⊥
+    → Tells form seen.after.disks (pair (4 ∷ 1 ∷ []) []) → Answers form counter (add []) seen (done tt) → ⊥

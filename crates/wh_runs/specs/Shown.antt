@@ -1,10 +1,10 @@
 -- How what is asked of a run is shown, from what a command does: it writes neither file; it settles both, and then writes the one that counts,
 -- or one and the other behind it; or it stops before anything is done.
-use Rattle.std.specs.Prelude.{◌≡◌, ◌⊎◌, ℕ, false, List, Some}
+use Rattle.std.specs.Prelude.{◌≡◌, ℕ, false, List, Some}
 use Rattle.wh_io.specs.Crash.{LeavesOnly}
 use Rattle.wh_io.specs.Files.{Held}
 use Rattle.wh_runs.specs.Outcome.{Contents, Finish, done, refused, read_fault, no_memory, write_fault, disk_fault}
-use Rattle.wh_runs.specs.Disks.{Form, Disks, Tells, Leaves, Which, other, part, with_part, disk_at, CrashPair, Keeps, Rests}
+use Rattle.wh_runs.specs.Disks.{Form, Disks, Tells, Leaves, Which, other, with_part, disk_at, CrashPair, Keeps, Rests}
 use Rattle.wh_runs.specs.Ends.{Seen, Ends, IsReached, Crashes}
 use Rattle.wh_runs.specs.Opens.{IsUnwritten, AreUnwritten}
 use Rattle.wh_runs.specs.Program.{Program, expected, IsLed}

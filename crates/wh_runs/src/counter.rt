@@ -1,10 +1,10 @@
 // A counter in two files: a small program, to see on it what the definitions say.
-ghost use Rattle.std.specs.Prelude.{◌≡◌, ℕ, List, ◌∷◌, IfOk, IfSome, is_err, false};
+ghost use Rattle.std.specs.Prelude.{◌≡◌, length, IfOk, IfSome, is_err, false};
 ghost use Rattle.wh_io.specs.Causes as counts;
 ghost use Rattle.wh_io.specs.Causes.{IsCountedPair};
 ghost use Rattle.wh_runs.specs.Answers.{Answers};
 ghost use Rattle.wh_runs.specs.Asked.{AnswersQuestion, CountsBoth, Prints, ask_finish};
-ghost use Rattle.wh_runs.specs.Counter.{ask, counted, counter, counter_sound};
+ghost use Rattle.wh_runs.specs.Counter.{ask, counter, counter_sound};
 ghost use Rattle.wh_runs.specs.Disks.{both, form};
 ghost use Rattle.wh_runs.specs.Opens.{AreUnwritten, IsUnwritten};
 ghost use Rattle.wh_runs.specs.Outcome.{is_disk_fault, is_write_fault};
@@ -60,50 +60,34 @@ fn answer<O: Sink, D: Disk>(out: &mut O, first: &mut D, second: &mut D) -> Resul
     }
 }
 
-fn print<O: Sink>(out: &mut O, count: Option<u8>) -> Result<(), NoAnswer>
+fn print<O: Sink>(out: &mut O, count: u64) -> Result<(), NoAnswer>
     ensures printed { Prints (O.taken out.old) (O.taken out.new) count result }
     ensures no_disk { is_disk_fault (ask_finish result) ≡ false }
     ensures out { counts.IsCounted (is_write_fault (ask_finish result)) (O.faults out.old) (O.faults out.new) }
 {
-    match count {
-        None => Err(NoAnswer::NotCreated),
-        Some(n) => match write_all(out, &[n]) {
-            Ok(()) => Ok(()),
-            Err(_) => Err(NoAnswer::WriteFault),
-        },
+    if count == 0 {
+        return Err(NoAnswer::NotCreated);
+    }
+    match write_all(out, &[(count % 256) as u8]) {
+        Ok(()) => Ok(()),
+        Err(_) => Err(NoAnswer::WriteFault),
     }
 }
 
 #[tactic(auto, using(crate::proofs::Unwritten::unwritten_then))]
-fn both_counted<D: Disk>(first: &mut D, second: &mut D) -> Result<Option<u8>, Failed>
+fn both_counted<D: Disk>(first: &mut D, second: &mut D) -> Result<u64, Failed>
     ensures count { CountsBoth (form D.Disk) (both first.old second.old) (both first.new second.new) result }
     ensures unwritten { AreUnwritten (form D.Disk) (both first.old second.old) (both first.new second.new) }
     ensures cause { IsCountedPair (is_err result) (D.faults first.old) (D.faults first.new) (D.faults second.old) (D.faults second.new) }
 {
     open_both(first, second)?;
-    match counted(second) {
-        Ok(None) => counted(first),
-        other => other,
-    }
+    Ok(length_of(first)?.max(length_of(second)?))
 }
 
-// What a file counts.
-fn counted<D: Disk>(file: &mut D) -> Result<Option<u8>, Failed>
-    ensures count { IfSome (D.content file.old) (λ bytes. IfOk result (λ n. n ≡ counted bytes)) }
+fn length_of<D: Disk>(file: &mut D) -> Result<u64, Failed>
+    ensures length { IfSome (D.content file.old) (λ bytes. IfOk result (λ n. n ≡ length bytes)) }
     ensures unwritten { IsUnwritten (form D.Disk) file.old file.new }
     ensures cause { counts.IsCounted (is_err result) (D.faults file.old) (D.faults file.new) }
 {
-    if file.length()? == 0 {
-        return Ok(None);
-    }
-    let mut byte = [0];
-    file.read_at(0, &mut byte)?;
-    Ok(less_one(byte[0]))
-}
-
-// The number below, where there is one.
-fn less_one(n: u8) -> Option<u8>
-    ensures { (rest : List ℕ) → result ≡ counted (n ∷ rest) }
-{
-    if n == 0 { None } else { Some(n - 1) }
+    file.length()
 }
