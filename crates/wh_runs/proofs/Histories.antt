@@ -44,26 +44,37 @@ module _ {F D : Type 0} (form : Form D) (program : Program) (sound : IsSound pro
     none_to k m none = subst (λ (j : ℕ). m ≡ first_steps program run m j) (sym none) refl
 
     whole : (status : program.Status) → EndsDone form (expected program run.command run.held run.start) run.seen status → (c : Contents) → Leaves form run.seen.after.disks c → Behind (MadeWhole program run) c
-    whole status ends c left = (outcome_start, at_start, record {
-      printed = ends.printed;
-      is = ap program.format.meaning (left_at_rest form run.seen.after.disks c _ (rests_on form (program.profile run.command).is_apart run.seen.before.disks run.seen.after.disks _ apart ends.state) left)
-          ∙ means_last program sound run.command run.held run.start runs.premise_met;
-    })
+    whole status ends c left = (
+      outcome_start,
+      at_start,
+      record {
+        printed = ends.printed;
+        is = ap program.format.meaning (left_at_rest form run.seen.after.disks c _ (rests_on form (program.profile run.command).is_apart run.seen.before.disks run.seen.after.disks _ apart ends.state) left)
+            ∙ means_last program sound run.command run.held run.start runs.premise_met;
+      },
+    )
 
     between : EndsBetween form (expected program run.command run.held run.start) run.seen → (c : Contents) → Leaves form run.seen.after.disks c → Behind (MadeBetween program run) c
     between ends c left =
         ⊎_elim (λ rests. (outcome_start, at_start, record { k = ends.k; within = ends.within; printed = ends.printed; is = rests_to ends.k c rests left }))
-        (λ kept. (program.format.meaning c, entry c (no_more form run.seen.before.disks run.seen.after.disks c kept.1.no_more left),
-            record { k = ends.k; within = ends.within; printed = ends.printed; is = none_to ends.k (program.format.meaning c) kept.0 }))
+        (λ kept. (
+          program.format.meaning c,
+          entry c (no_more form run.seen.before.disks run.seen.after.disks c kept.1.no_more left),
+          record { k = ends.k; within = ends.within; printed = ends.printed; is = none_to ends.k (program.format.meaning c) kept.0 },
+        ))
         (stands_on form (program.profile run.command).is_apart run.seen.before.disks run.seen.after.disks _ ends.k apart ends.state)
 
     in_text : EndsInText form (expected program run.command run.held run.start) run.seen → (c : Contents) → Leaves form run.seen.after.disks c → Behind (MadeInText program run) c
-    in_text ends c left = (outcome_start, at_start, record {
-      k = ends.k;
-      within = ends.within;
-      printed = ends.printed;
-      is = rests_to (suc ends.k) c (rests_on form (program.profile run.command).is_apart run.seen.before.disks run.seen.after.disks _ apart ends.state) left;
-    })
+    in_text ends c left = (
+      outcome_start,
+      at_start,
+      record {
+        k = ends.k;
+        within = ends.within;
+        printed = ends.printed;
+        is = rests_to (suc ends.k) c (rests_on form (program.profile run.command).is_apart run.seen.before.disks run.seen.after.disks _ apart ends.state) left;
+      },
+    )
 
     in_commit : EndsInCommit program.format.meaning form (expected program run.command run.held run.start) run.seen → (c : Contents) → Leaves form run.seen.after.disks c → Behind (MadeInCommit program run) c
     in_commit ends c left = by_case (commits_on form program run.command run.held run.start run.seen (program.profile run.command).is_apart ends.k c apart ends.state left)
@@ -78,8 +89,8 @@ module _ {F D : Type 0} (form : Form D) (program : Program) (sound : IsSound pro
     turned reason ends c left =
         let none = refused_steps program run.command run.held run.start reason ends.is in
         let printed = ends.printed
-            ∙ ap (λ (steps : List (Step program.format.Change)). gained run.seen.before.out (texts (pieces_by program.format (program.profile run.command).manner steps run.start))) none
-            ∙ gained_nothing run.seen.before.out in
+        ∙ ap (λ (steps : List (Step program.format.Change)). gained run.seen.before.out (texts (pieces_by program.format (program.profile run.command).manner steps run.start))) none
+        ∙ gained_nothing run.seen.before.out in
         let same = ap (λ (steps : List (Step program.format.Change)). last_contents run.start (pieces_by program.format (program.profile run.command).manner steps run.start)) none in
         ⊎_elim (λ rests. (outcome_start, at_start, record { printed = printed; is = ap program.format.meaning (left_at_rest form run.seen.after.disks c _ rests left ∙ same) }))
         (λ kept. (program.format.meaning c, entry c (no_more form run.seen.before.disks run.seen.after.disks c kept.1.no_more left), record { printed = printed; is = refl }))
@@ -116,7 +127,7 @@ module _ {F D : Type 0} (form : Form D) (program : Program) (sound : IsSound pro
     nothing_printed reason ends =
         ends.printed
         ∙ ap (λ (steps : List (Step program.format.Change)). gained run.seen.before.out (texts (pieces_by program.format (program.profile run.command).manner steps run.start)))
-            (refused_steps program run.command run.held run.start reason ends.is)
+        (refused_steps program run.command run.held run.start reason ends.is)
         ∙ gained_nothing run.seen.before.out
 
     off_files : (finish : Finish program.Status program.Refusal) → is_disk_fault finish ≡ false → Ends program.format.meaning form (expected program run.command run.held run.start) run.seen finish

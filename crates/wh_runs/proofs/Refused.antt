@@ -54,5 +54,5 @@ module _ (F : Type 0) {D : Type 0} (form : Form D) where
         let ends = answers.ends held (pair (4 ∷ []) []) is rests.told tt in
         let zero_is : ends.k ≡ 0 = omega (arith, ends.within) in
         not_around held seen.before.disks rests
-            (subst (λ (k : ℕ). IsAround count_in form (expected counter move held (pair (4 ∷ []) [])) seen.before.disks k empty) zero_is
-            (ends.state empty (told_left form is_left seen.after.disks empty after)))
+        (subst (λ (k : ℕ). IsAround count_in form (expected counter move held (pair (4 ∷ []) [])) seen.before.disks k empty) zero_is
+        (ends.state empty (told_left form is_left seen.after.disks empty after)))

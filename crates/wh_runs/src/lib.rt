@@ -20,12 +20,12 @@ mod program;
 mod rows;
 mod shown;
 
+pub use counter::{Counter, NoAnswer, ask};
 pub use laws::{
     asking_keeps, crash_reaches, done_is_exact, faultless_is_planned, headline, keeps_acknowledged,
     quiet_reads_nothing, refusal_keeps, refusal_rests, settled_crash_reaches,
     settled_keeps_acknowledged,
 };
-pub use counter::{Counter, NoAnswer, ask};
 pub use open::open_both;
 pub use program::Commands;
 pub use rows::{
