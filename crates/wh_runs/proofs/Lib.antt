@@ -6,3 +6,4 @@ pub mod Refused
 pub mod Showing
 pub mod Unwritten
 pub mod Asking
+pub mod Following

@@ -1,11 +1,12 @@
 -- How what is asked of a run is shown, from what a command does: it writes neither file; it settles both, and then writes the one that counts,
 -- or one and the other behind it; or it stops before anything is done.
-use Rattle.std.specs.Prelude.{◌≡◌, ℕ, false, List, Some}
+use Rattle.std.specs.Prelude.{◌≡◌, ◌<◌, ℕ, zero, suc, Bool, true, false, List, ◌∷◌, length, Some}
 use Rattle.wh_io.specs.Crash.{LeavesOnly}
 use Rattle.wh_io.specs.Files.{Held}
-use Rattle.wh_runs.specs.Outcome.{Contents, Finish, done, refused, read_fault, no_memory, write_fault, disk_fault}
+use Rattle.wh_io.specs.Sink.{gained}
+use Rattle.wh_runs.specs.Outcome.{Contents, Piece, Outcome, Finish, done, refused, read_fault, no_memory, write_fault, disk_fault}
 use Rattle.wh_runs.specs.Disks.{Form, Disks, Tells, Leaves, Which, other, with_part, disk_at, CrashPair, Keeps, Rests}
-use Rattle.wh_runs.specs.Ends.{Seen, Ends, IsReached, Crashes}
+use Rattle.wh_runs.specs.Ends.{Scene, Seen, Ends, IsReached, Crashes}
 use Rattle.wh_runs.specs.Opens.{IsUnwritten, AreUnwritten}
 use Rattle.wh_runs.specs.Program.{Program, expected, IsLed}
 
@@ -83,3 +84,42 @@ abbrev pub UnbegunEnds : (F : Type 0) {D : Type 0} → Form D → Program → Ty
 UnbegunEnds F form program = (command : program.Command) (held : Held) (start : Contents) (seen : Seen F _) (finish : Finish program.Status program.Refusal)
     → (program.profile command).is_apart ≡ false → IsUnbegun form start seen → MayStop program command held start finish
     → Ends program.format.meaning form (expected program command held start) seen finish
+
+-- ---- one piece after another
+
+-- the number of a piece behind n others
+abbrev pub behind : ℕ → ℕ → ℕ
+behind zero k = k
+behind (suc n) k = behind n (suc k)
+
+-- what is left to do of a command on the two files, behind n pieces
+abbrev pub left_over : (program : Program) → program.Command → Held → program.format.Meaning → ℕ → Contents → List Piece → Finish program.Status program.Refusal → Outcome program.Status program.Refusal
+left_over program command held m n start pieces finish = record {
+  start = start;
+  pieces = pieces;
+  finish = finish;
+  is_apart = false;
+  may_read = λ k. (program.profile command).may_read held m (behind n k);
+}
+
+-- something cut it off while there was more to do
+abbrev pub is_cut : {S R : Type 0} → Finish S R → Bool
+is_cut (done status) = false
+is_cut (refused reason) = false
+is_cut write_fault = false
+is_cut other = true
+
+-- One piece was done: its text is printed, and its contents stand with nothing pending. As what is left ends, so does the whole.
+abbrev pub PieceFollows : (F : Type 0) {D : Type 0} → Form D → Program → Type 0
+PieceFollows F form program = (command : program.Command) (held : Held) (m : program.format.Meaning) (n : ℕ) (start : Contents) (piece : Piece) (pieces : List Piece)
+    (finish ended : Finish program.Status program.Refusal) (before mid after : Scene F _)
+    → mid.out ≡ gained before.out piece.text → Rests form mid.disks piece.contents → (is_cut ended ≡ true → 0 < length pieces)
+    → Ends program.format.meaning form (left_over program command held m (suc n) piece.contents pieces finish) (record { before = mid; after = after }) ended
+    → Ends program.format.meaning form (left_over program command held m n start (piece ∷ pieces) finish) (record { before = before; after = after }) ended
+
+-- What is left to do at the beginning is the whole.
+abbrev pub WholeIsLeft : (F : Type 0) {D : Type 0} → Form D → Program → Type 0
+WholeIsLeft F form program = (command : program.Command) (held : Held) (start : Contents) (seen : Seen F _) (ended : Finish program.Status program.Refusal)
+    → (program.profile command).is_apart ≡ false
+    → Ends program.format.meaning form (left_over program command held (program.format.meaning start) 0 start (expected program command held start).pieces (expected program command held start).finish) seen ended
+    → Ends program.format.meaning form (expected program command held start) seen ended

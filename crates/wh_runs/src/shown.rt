@@ -1,6 +1,6 @@
 // How what is asked of a run is shown, from what a command does. The functions have no code.
 ghost use Rattle.wh_runs.specs.Disks.{form};
-ghost use Rattle.wh_runs.specs.Shown.{CrashesBehind, CrashesInPlace, ReachedIsLed, SameIsUnwritten, UnbegunEnds, UnwrittenIsSafe};
+ghost use Rattle.wh_runs.specs.Shown.{CrashesBehind, CrashesInPlace, PieceFollows, ReachedIsLed, SameIsUnwritten, UnbegunEnds, UnwrittenIsSafe, WholeIsLeft};
 
 use crate::program::Commands;
 use wh_io::Disk;
@@ -33,4 +33,14 @@ pub fn reached_is_led<C: Commands>()
 /// A command on the two files may stop before anything is done.
 pub fn unbegun_ends<F, D: Disk, C: Commands>()
     ensures { UnbegunEnds F (form D.Disk) C.program }
+{}
+
+/// Once a piece is done, the whole ends as what is left does.
+pub fn piece_follows<F, D: Disk, C: Commands>()
+    ensures { PieceFollows F (form D.Disk) C.program }
+{}
+
+/// What is left to do at the beginning is the whole.
+pub fn whole_is_left<F, D: Disk, C: Commands>()
+    ensures { WholeIsLeft F (form D.Disk) C.program }
 {}
