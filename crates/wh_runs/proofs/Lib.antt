@@ -7,3 +7,4 @@ pub mod Showing
 pub mod Unwritten
 pub mod Asking
 pub mod Following
+pub mod Beside

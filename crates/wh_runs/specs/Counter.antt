@@ -1,11 +1,11 @@
 -- A counter in two files: a small program, to see on it what the definitions say. The longer file counts, by its length, and of two that are as long
 -- the first; what its bytes are means nothing, so that a torn write does no harm.
 use Rattle.std.specs.Prelude.{◌≡◌, ℕ, ◌+◌, ◌-◌, ◌%◌, max, zero, suc, true, false, List, [], ◌∷◌, ◌++◌, length, get_or, Option, None, Some, codes}
-use Rattle.std.proofs.Common.{refl, arith, length-append}
+use Rattle.std.proofs.Common.{◌<◌, refl, arith, length-append}
 use Rattle.wh_io.specs.Files.{Held}
 use Rattle.wh_runs.specs.Outcome.{Contents}
 use Rattle.wh_runs.specs.Disks.{Which, first_file, second_file, other, part, with_part}
-use Rattle.wh_runs.specs.Program.{Manner, in_place, moves, Format, put, Step, Plan, does, refuses, Profile, Program, AreAllowed, HaveNoChange, steps_over, IsSound}
+use Rattle.wh_runs.specs.Program.{Manner, in_place, moves, Format, put, Step, Plan, does, refuses, Profile, Program, AreAllowed, HaveNoChange, HaveOneChange, steps_over, IsSound}
 
 -- ---- the two files
 
@@ -140,6 +140,32 @@ counter_means in_place stays c may = absurd may
 counter_means moves one_more c may = absurd may
 counter_means moves stays c may = moves_means (length c.second - length c.first) c refl
 
+no_longer : (k : ℕ) → k ≡ 0 → longer_by k ≡ first_file
+no_longer zero is = refl
+no_longer (suc k) is = absurd (cc (is))
+
+still_longer : (k : ℕ) → 0 < k → longer_by k ≡ second_file
+still_longer zero less = absurd (omega (arith, less))
+still_longer (suc k) less = refl
+
+in_place_active : (n : ℕ) (c : Contents) → length c.second - length c.first ≡ n → active (with_part (longer_by n) (part (longer_by n) c ++ 1 ∷ []) c) ≡ longer_by n
+in_place_active zero c is = no_longer (length c.second - length (c.first ++ 1 ∷ [])) (omega (arith, is, length-append c.first (1 ∷ [])))
+in_place_active (suc n) c is = still_longer (length (c.second ++ 1 ∷ []) - length c.first) (omega (arith, is, length-append c.second (1 ∷ [])))
+
+counter_active : (change : Change) (c : Contents) → may_write in_place change (count_in c) → active (put format in_place change c) ≡ active c
+counter_active one_more c may = in_place_active (length c.second - length c.first) c refl
+counter_active stays c may = absurd may
+
+counter_once : (command : Command) → (profile command).manner ≡ moves → (held : Held) (n : ℕ) → HaveOneChange (steps_over counter command held n)
+counter_once help is held n = tt
+counter_once create is held zero = tt
+counter_once create is held (suc n) = tt
+counter_once (add names) is held n = absurd (cc (is))
+counter_once move is held zero = tt
+counter_once move is held (suc n) = tt
+counter_once ask is held zero = tt
+counter_once ask is held (suc n) = tt
+
 step_allowed : (file : Option (List ℕ)) (steps : List (Step Change)) (n : ℕ) → ((m : ℕ) → AreAllowed format in_place steps m) → AreAllowed format in_place (step_for file ∷ steps) n
 step_allowed None steps n rest = (tt, rest n)
 step_allowed (Some []) steps n rest = (tt, rest n)
@@ -186,6 +212,8 @@ counter_meets ask n = tt
 pub counter_sound : IsSound counter
 counter_sound = record {
   means = counter_means;
+  keeps_active = counter_active;
+  moves_once = counter_once;
   plans = λ command held n premise. counter_plans command held n;
   apart = counter_apart;
   quiet = counter_quiet;

@@ -3,9 +3,9 @@
 use Rattle.std.specs.Prelude.{◌≡◌, ◌⊎◌, ℕ, ◌-◌, ◌^◌, ◌<◌, false, List, ◌∷◌, take, Some}
 use Rattle.wh_io.specs.Files.{Held}
 use Rattle.wh_io.specs.Sink.{gained, GainsPrefix}
-use Rattle.wh_runs.specs.Outcome.{Contents, Outcome, Finish, done, refused, read_fault, no_memory, is_disk_fault, texts, last_contents}
-use Rattle.wh_runs.specs.Disks.{Form, Tells, Leaves, Rests, Keeps, CrashPair}
-use Rattle.wh_runs.specs.Program.{Program, expected, steps_over, led, HaveNoChange}
+use Rattle.wh_runs.specs.Outcome.{Contents, Outcome, Finish, done, refused, read_fault, no_memory, is_disk_fault, texts, contents_after, last_contents}
+use Rattle.wh_runs.specs.Disks.{Form, Tells, Leaves, Rests, Keeps, CrashPair, other, part}
+use Rattle.wh_runs.specs.Program.{in_place, Program, expected, steps_over, led, HaveNoChange}
 use Rattle.wh_runs.specs.Ends.{Seen, RestsOn}
 use Rattle.wh_runs.specs.Answers.{Answers}
 use Rattle.wh_runs.specs.History.{Run, IsHistory, IsLeft, IsMade}
@@ -61,6 +61,12 @@ pub record HasNoFault {F D : Type 0} (form : Form D) (seen : Seen F D) : Type 0 
 abbrev pub FaultlessIsPlanned : (F : Type 0) {D : Type 0} → Form D → Program → Type 0
 FaultlessIsPlanned F form program = (command : program.Command) (held : Held) (start : Contents) (seen : Seen F _) (finish : Finish program.Status program.Refusal)
     → IsRunOver form program command held start seen finish → HasNoFault form seen → ((expected program command held start).finish ≡ finish) ⊎ (finish ≡ no_memory)
+
+-- A command that writes in place leaves the bytes of the other file as they were, whatever is done of it.
+abbrev pub InPlaceKeepsOther : Program → Type 0
+InPlaceKeepsOther program = (command : program.Command) (held : Held) (start : Contents) (k : ℕ) → (program.profile command).manner ≡ in_place
+    → (program.profile command).premise (program.format.meaning start)
+    → let last = program.format.active start in part (other last) (contents_after start (expected program command held start).pieces k) ≡ part (other last) start
 
 -- ---- crashes
 

@@ -84,6 +84,15 @@ abbrev pub HaveNoChange : {X : Type 0} → List (Step X) → Type 0
 HaveNoChange [] = Unit {0}
 HaveNoChange (step ∷ steps) = (step.change ≡ None) × HaveNoChange steps
 
+-- at most one of them has a change
+abbrev pub HaveNoMore : {X : Type 0} → Option X → Type 0 → Type 0 → Type 0
+HaveNoMore None One No = One
+HaveNoMore (Some change) One No = No
+
+abbrev pub HaveOneChange : {X : Type 0} → List (Step X) → Type 0
+HaveOneChange [] = Unit {0}
+HaveOneChange (step ∷ steps) = HaveNoMore step.change (HaveOneChange steps) (HaveNoChange steps)
+
 -- ---- how it is written
 
 -- the contents once a step is made, and the pieces of steps
@@ -149,6 +158,11 @@ pub record IsSound (program : Program) : Type 0 where
   -- the bytes of a change that may be written mean the changed meaning
   pub means : (manner : Manner) (change : program.format.Change) (c : Contents) → program.format.allowed manner change (program.format.meaning c)
       → program.format.meaning (put program.format manner change c) ≡ program.format.changed change (program.format.meaning c)
+  -- one that is written in place leaves the same file to count, and a command that moves makes one change at most: so of each command one file is
+  -- the last that it writes
+  pub keeps_active : (change : program.format.Change) (c : Contents) → program.format.allowed in_place change (program.format.meaning c)
+      → program.format.active (put program.format in_place change c) ≡ program.format.active c
+  pub moves_once : (command : program.Command) → (program.profile command).manner ≡ moves → (held : Held) (m : program.format.Meaning) → HaveOneChange (steps_over program command held m)
   -- a command plans only changes that may be written
   pub plans : (command : program.Command) (held : Held) (m : program.format.Meaning) → (program.profile command).premise m
       → AreAllowed program.format (program.profile command).manner (steps_over program command held m) m

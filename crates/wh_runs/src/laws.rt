@@ -1,6 +1,6 @@
 // What follows of every run, and of every history of runs. The functions have no code.
 ghost use Rattle.wh_runs.specs.Disks.{form};
-ghost use Rattle.wh_runs.specs.Laws.{DoneIsExact, RefusalKeeps, AskingKeeps, QuietReadsNothing, FaultlessIsPlanned, CrashReaches, KeepsAcknowledged, RefusalRests, SettledCrashReaches, SettledKeepsAcknowledged, Headline};
+ghost use Rattle.wh_runs.specs.Laws.{DoneIsExact, RefusalKeeps, AskingKeeps, QuietReadsNothing, FaultlessIsPlanned, InPlaceKeepsOther, CrashReaches, KeepsAcknowledged, RefusalRests, SettledCrashReaches, SettledKeepsAcknowledged, Headline};
 
 use crate::program::Commands;
 use wh_io::Disk;
@@ -28,6 +28,11 @@ pub fn quiet_reads_nothing<F, D: Disk, C: Commands>()
 /// Where no device fails a run finishes as its plan says, or for want of memory.
 pub fn faultless_is_planned<F, D: Disk, C: Commands>()
     ensures { FaultlessIsPlanned F (form D.Disk) C.program }
+{}
+
+/// A command that writes in place leaves the bytes of the other file.
+pub fn in_place_keeps_other<C: Commands>()
+    ensures { InPlaceKeepsOther C.program }
 {}
 
 /// Whatever a crash leaves is what some first changes lead to, or might have been left at entry.

@@ -22,9 +22,9 @@ mod shown;
 
 pub use counter::{Counter, NoAnswer, ask};
 pub use laws::{
-    asking_keeps, crash_reaches, done_is_exact, faultless_is_planned, headline, keeps_acknowledged,
-    quiet_reads_nothing, refusal_keeps, refusal_rests, settled_crash_reaches,
-    settled_keeps_acknowledged,
+    asking_keeps, crash_reaches, done_is_exact, faultless_is_planned, headline,
+    in_place_keeps_other, keeps_acknowledged, quiet_reads_nothing, refusal_keeps, refusal_rests,
+    settled_crash_reaches, settled_keeps_acknowledged,
 };
 pub use open::open_both;
 pub use program::Commands;
