@@ -1,0 +1,10 @@
+pub mod Means
+pub mod Kept
+pub mod OneRun
+pub mod Histories
+pub mod Refused
+pub mod Showing
+pub mod Unwritten
+pub mod Asking
+pub mod Following
+pub mod Beside

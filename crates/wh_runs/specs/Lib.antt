@@ -1,0 +1,12 @@
+pub mod Outcome
+pub mod Disks
+pub mod Program
+pub mod Ends
+pub mod Answers
+pub mod Opens
+pub mod Shown
+pub mod History
+pub mod Laws
+pub mod Counter
+pub mod Asked
+pub mod Rows
