@@ -1,0 +1,11 @@
+pub mod AttrLemmas
+pub mod CondLemmas
+pub mod TableLemmas
+pub mod JoinLemmas
+pub mod NodeLemmas
+pub mod Steps
+pub mod Sides
+pub mod Whole
+pub mod PartLemmas
+pub mod Arms
+pub mod Falls

@@ -1,0 +1,4 @@
+pub mod Conjuncts
+pub mod Nodes
+pub mod Pushed
+pub mod Rewritten
