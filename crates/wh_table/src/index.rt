@@ -138,9 +138,7 @@ pub(crate) fn index_within<'a>(indexes: &'a [Index], columns: &[u32]) -> &'a Ind
 {
     let mut chosen = first_within(indexes, columns);
     for index in indexes {
-        if index.places.len() > chosen.places.len()
-            && are_among(index.places.as_slice(), columns)
-        {
+        if index.places.len() > chosen.places.len() && are_among(index.places.as_slice(), columns) {
             chosen = index;
         }
     }

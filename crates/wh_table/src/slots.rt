@@ -5,7 +5,9 @@ ghost use Rattle.wh_table.specs.Slots.{SlottedRows, live_rows, rows_of};
 ghost use Rattle.wh_table.specs.Table.{HasSetWithin, matching};
 
 use crate::hash::{asked_hash, row_hash};
-use crate::index::{Index, index_within, link_all, new_indexes, relink_all, relink_whole, reserve_all};
+use crate::index::{
+    Index, index_within, link_all, new_indexes, relink_all, relink_whole, reserve_all,
+};
 use crate::slot::Slot;
 use crate::walk::{copies_where, slot_of, slot_where};
 use std::alloc::Global;

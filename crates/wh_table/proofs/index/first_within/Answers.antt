@@ -23,6 +23,6 @@ loop-index-preserved c =
     below_more (λ j. (e : Index) → AreAmong (get_or c.args.indexes.now j e).places c.args.columns.now → ⊥) c.loop-index.index-index
     (λ j lt e. c.loop-index.invariant j e lt)
     (λ e all.
-      let same = get_or_read c.args.indexes.now c.loop-index.index-index c.index-item.result c.loop-index-test.true c.index-item.is e in
-      true≢false (sym (c.are_among.ensures.no (subst (λ ps. AreAmong ps c.args.columns.now) (sym (c.as_slice.ensures ∙ ap (λ z. z.places) same)) all)) ∙ c.if-are_among.false))
+    let same = get_or_read c.args.indexes.now c.loop-index.index-index c.index-item.result c.loop-index-test.true c.index-item.is e in
+    true≢false (sym (c.are_among.ensures.no (subst (λ ps. AreAmong ps c.args.columns.now) (sym (c.as_slice.ensures ∙ ap (λ z. z.places) same)) all)) ∙ c.if-are_among.false))
     k le d
