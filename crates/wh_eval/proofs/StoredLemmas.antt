@@ -1,27 +1,22 @@
--- Tables that fit their heads, and rows that are found by the first of some columns.
+-- Tables that fit their heads, and the indexed sets among some columns.
 use Rattle.std.proofs.Common.{◌≡◌, ℕ, suc, ◌+◌, ◌-◌, ◌<◌, Bool, true, false, ◌&&◌, ◌||◌, if◌then◌else◌, List, [], ◌∷◌, ◌++◌, get_or, length-append, map, length, take, Some, nat_eq, nat_le, nat_lt, refl, sym, ap, subst, ◌∙◌, true≢false, arith}
 use Rattle.std.specs.Prelude.{IsPermutation, sum_by}
 use Rattle.std.specs.Cmp.Lexicographic.{pointwise}
 use Rattle.std.specs.List.{list_any, range_with_len}
 use Rattle.std.proofs.lemmas.Bool.Decides.{Decides-eqb, nat_tests}
 use Rattle.std.proofs.lemmas.List.{length-map, get_or_append_left}
+use Rattle.std.proofs.lemmas.List.Elements.{Contains-append_left, Contains-get_or}
 use Rattle.std.proofs.lemmas.List.Folds.{Any-from_list_any, list_any_at}
 use Rattle.std.proofs.lemmas.List.FromFn.{length-range_with_len, get_or-range_with_len, length-map-range_with_len, get_or-map-range_with_len}
-use Rattle.std.proofs.lemmas.List.Sorted.{IsPermutation-refl, length_permutation, sum_by-IsPermutation}
+use Rattle.std.proofs.lemmas.List.Sorted.{IsPermutation-refl, Contains-permutation, length_permutation, sum_by-IsPermutation}
 use Rattle.std.proofs.lemmas.List.Sums.{AllPass-from_list_all, list_all-from_AllPass}
 use Rattle.std.proofs.lemmas.Slice.Eq.{slice_eq-Decides}
 use Rattle.wh_base.specs.declared.head.Head.{Head}
 use Rattle.wh_base.specs.declared.value.Attr.{Attr}
-use Rattle.wh_base.specs.declared.value.Value.{Value}
-use Rattle.wh_base.specs.Columns.{name_eq, is_in, all_in, place_of, picked, value_at, cut}
+use Rattle.wh_base.specs.Columns.{name_eq, is_in, all_in, place_of}
 use Rattle.wh_base.specs.Heads.{attrs_at, columns_at}
-use Rattle.wh_base.specs.RowSet.{has, AreDistinct, IsSetOf}
-use Rattle.wh_base.specs.Tables.{matching}
-use Rattle.wh_base.specs.Value.{row_eq}
-use Rattle.wh_base.specs.ValueLaws.{row_eq-Decides}
-use Rattle.wh_base.proofs.RowSets.{has-filter, IsDistinct-filter}
 use Rattle.wh_eval.specs.Stored.{first_stored, is_stored, stored_table, has_single, has_singles, fits, FitHeads, IsFit}
-use Rattle.wh_table.specs.Table.{IndexedRows, IsIndexed, matching as matching_at}
+use Rattle.wh_table.specs.Table.{IndexedRows, IsIndexed, HasSetWithin}
 
 -- ---- one column as an indexed set
 
@@ -125,33 +120,17 @@ first_indexed indexes columns [] h all some = absurd (omega (arith, some))
 first_indexed indexes columns (n ∷ names) h all some =
     single_indexed indexes (place_of columns n) (singles_at indexes (length columns) (place_of columns n) h (place_below columns n (left_and (is_in columns n) (all_in columns names) all)))
 
-pub first_long : (columns names : List (List ℕ)) → 0 < length names → length (map (place_of columns) (take 1 names)) ≡ 1
-first_long columns [] some = absurd (omega (arith, some))
-first_long columns (n ∷ names) some = refl
-
--- a row with all of the values has the first of them
-first_value : (columns names : List (List ℕ)) (vals row : List Value) → 0 < length names → row_eq (cut columns names row) vals ≡ true
-    → row_eq (picked (map (place_of columns) (take 1 names)) row) (picked (0 ∷ []) vals) ≡ true
-first_value columns [] vals row some h = absurd (omega (arith, some))
-first_value columns (n ∷ names) vals row some h =
-    let same : cut columns (n ∷ names) row ≡ vals = (row_eq-Decides (cut columns (n ∷ names) row) vals).0 h in
-    (row_eq-Decides (value_at row (place_of columns n) ∷ []) (picked (0 ∷ []) vals)).1 (ap (picked (0 ∷ [])) same)
-
-narrower : (a p q : Bool) → (q ≡ true → p ≡ true) → ((a && p) && q) ≡ (a && q)
-narrower true true q h = refl
-narrower true false true h = h refl
-narrower true false false h = refl
-narrower false p q h = refl
-
--- the rows with the first of some values, narrowed to those with all of them
-pub narrowed_set : (columns names : List (List ℕ)) (vals : List Value) (rows found kept : List (List Value)) → 0 < length names
-    → IsSetOf found (matching_at (map (place_of columns) (take 1 names)) (picked (0 ∷ []) vals) rows) → kept ≡ matching columns names vals found → IsSetOf kept (matching columns names vals rows)
-narrowed_set columns names vals rows found kept some h is =
-    let p = λ (r : List Value). row_eq (picked (map (place_of columns) (take 1 names)) r) (picked (0 ∷ []) vals) in
-    let q = λ (r : List Value). row_eq (cut columns names r) vals in
-    record {
-      distinct = subst AreDistinct (sym is) (IsDistinct-filter q found h.distinct);
-      same = λ r.
-          ap (λ k. has k r) is ∙ has-filter q found r ∙ ap (λ b. b && q r) (h.same r ∙ has-filter p rows r)
-          ∙ narrower (has rows r) (p r) (q r) (first_value columns names vals r some) ∙ sym (has-filter q rows r);
-    }
+-- the set of the first column is among all of them
+pub within_first : (indexes : List (List ℕ)) (columns names : List (List ℕ)) → has_singles indexes (length columns) ≡ true → all_in columns names ≡ true → 0 < length names
+    → HasSetWithin indexes (map (place_of columns) names)
+within_first indexes columns [] h all some = absurd (omega (arith, some))
+within_first indexes columns (n ∷ names) h all some =
+    let w = first_indexed indexes columns (n ∷ names) h all some in (
+      w.0,
+      w.1,
+      w.2,
+      w.3,
+      λ k d lt.
+          Contains-append_left (place_of columns n ∷ []) (map (place_of columns) names) (get_or w.1 k d)
+          (Contains-permutation w.1 (place_of columns n ∷ []) (get_or w.1 k d) w.4 (Contains-get_or w.1 k d lt)),
+    )

@@ -12,7 +12,7 @@ ghost use Rattle.wh_table.specs.Table.{IsIndexed, matching as matching_at};
 use crate::base::Base;
 use crate::look_up;
 use std::alloc::Global;
-use wh_base::{Heads, Name, Names, NoMemory, Places, Row, Rows, pick_at, place_of};
+use wh_base::{Heads, Name, Names, NoMemory, Places, Row, Rows, place_of};
 use wh_steps::{Ledger, Steps};
 use wh_table::{Table, Tables};
 
@@ -137,30 +137,8 @@ fn places_of(alloc: Global, columns: &[Name], names: &[Name]) -> Result<Places, 
     Ok(places)
 }
 
-/// The rows that have the first of some values at the first of some names, by the index of this column.
-fn with_first<L: Ledger>(
-    alloc: Global,
-    table: &Table,
-    columns: &[Name],
-    names: &[Name],
-    vals: &Row,
-    steps: &mut Steps<L>,
-) -> Result<Rows, NoMemory>
-    requires columns { IsTrue (all_in columns.now names.now) }
-    requires some { 0 < length names.now }
-    requires singles { IsTrue (has_singles table.now.indexes (length columns.now)) }
-    ensures rows { IfOk result (λ rows. IsSetOf rows
-        (matching_at (map (place_of columns.now) (take 1 names.now)) (picked (0 ∷ []) vals.now) table.now.rows)) }
-    ensures probes { steps.old.probes ≤ steps.new.probes }
-    ensures scans { steps.new.scans ≡ steps.old.scans }
-{
-    let places = places_of(alloc, columns, &names[..1])?;
-    let values = pick_at(alloc, vals, &[0])?;
-    table.probe(alloc, &places, &values, steps)
-}
-
-/// The rows of a table with these values at the names, by a probe of the first of them alone. The columns of the table are
-/// named, and each is an indexed set.
+/// The rows of a table with these values at the names, by a probe of the largest indexed set among their columns. The columns
+/// of the table are named, and each is an indexed set.
 pub fn probe_where<L: Ledger>(
     alloc: Global,
     table: &Table,
@@ -176,8 +154,8 @@ pub fn probe_where<L: Ledger>(
     ensures probes { steps.old.probes ≤ steps.new.probes }
     ensures scans { steps.new.scans ≡ steps.old.scans }
 {
-    let found = with_first(alloc, table, columns, names, vals, steps)?;
-    look_up::rows_where(alloc, found, columns, names, vals)
+    let places = places_of(alloc, columns, names)?;
+    table.probe_within(alloc, &places, vals, steps)
 }
 
 /// A table fits the attributes of its number exactly where it is as wide, and each of its columns alone is an indexed set.

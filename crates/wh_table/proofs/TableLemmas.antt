@@ -1,6 +1,9 @@
 -- Distinct rows before and after a change.
 use Rattle.std.proofs.Common.{◌≡◌, Bool, true, false, ℕ, ◌&&◌, ◌||◌, List, [], ◌∷◌, ◌++◌, reverse, not, cond, refl, sym, ap, subst, ◌∙◌, true≢false}
-use Rattle.std.proofs.lemmas.List.{reverse-append}
+use Rattle.std.proofs.lemmas.List.{reverse-append, length-map}
+use Rattle.std.proofs.lemmas.List.Elements.{Contains-get_or}
+use Rattle.std.proofs.lemmas.List.Sorted.{Contains-permutation}
+use Rattle.std.proofs.Common.{length, get_or}
 use Rattle.wh_table.proofs.LiveRows.{apart, other_way}
 use Rattle.std.specs.List.{list_any, IsDistinct, AllByRecursion}
 use Rattle.std.proofs.lemmas.Map.Keys.{IsDistinct-head, IsDistinct-tail, IsDistinct-cons}
@@ -11,8 +14,8 @@ use Rattle.wh_base.specs.Tables.{without}
 use Rattle.wh_base.specs.Value.{row_eq}
 use Rattle.wh_base.specs.ValueLaws.{row_eq-Decides}
 use Rattle.wh_base.proofs.RowSets.{has_itself, has-append, has-filter, IsDistinct-filter}
-use Rattle.wh_table.specs.Table.{matching, CanApply}
-use Rattle.wh_base.specs.Columns.{picked}
+use Rattle.wh_table.specs.Table.{matching, CanApply, IsIndexed, HasSetWithin}
+use Rattle.wh_base.specs.Columns.{picked, value_at}
 
 neither : (a b : Bool) → (a || b) ≡ false → (a ≡ false) × (b ≡ false)
 neither true b h = absurd (true≢false h)
@@ -113,3 +116,17 @@ without-more (x ∷ rows) gone row = by (has gone x) (has (row ∷ []) x) refl (
 pub without-none : (rows : List (List Value)) → without rows [] ≡ rows
 without-none [] = refl
 without-none (x ∷ rows) = ap (λ rs. x ∷ rs) (without-none rows)
+
+-- ---- which sets are among columns
+
+pub indexed_within : (indexes : List (List ℕ)) (columns : List ℕ) → IsIndexed indexes columns → HasSetWithin indexes columns
+indexed_within indexes columns h = (h.0, h.1, h.2, h.3, λ k d lt. Contains-permutation h.1 columns (get_or h.1 k d) h.4 (Contains-get_or h.1 k d lt))
+
+-- values of another number are those of no row
+pub matching-none : (columns : List ℕ) (values : List Value) (rows : List (List Value)) → (length values ≡ length columns → ⊥) → matching columns values rows ≡ []
+matching-none columns values [] other = refl
+matching-none columns values (row ∷ rows) other = by (row_eq (picked columns row) values) refl (matching-none columns values rows other)
+  where
+    by : (b : Bool) → row_eq (picked columns row) values ≡ b → matching columns values rows ≡ [] → cond b (row ∷ matching columns values rows) (matching columns values rows) ≡ []
+    by true h rest = absurd (other (sym (ap (λ vs. length vs) ((row_eq-Decides (picked columns row) values).0 h)) ∙ length-map columns (value_at row)))
+    by false h rest = rest

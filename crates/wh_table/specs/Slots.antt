@@ -1,5 +1,5 @@
 -- Rows in numbered slots. A row that was deleted keeps its slot, which is marked dead, until the slots are numbered anew.
-use Rattle.std.specs.Prelude.{◌≡◌, ◌+◌, ◌-◌, ◌<◌, ◌≤◌, ◌&&◌, ℕ, Bool, true, not, List, [], ◌∷◌, ◌++◌, map, filter, length, All, Contains, slice_index, slice_index_or}
+use Rattle.std.specs.Prelude.{◌≡◌, ◌+◌, ◌-◌, ◌<◌, ◌≤◌, ◌&&◌, ℕ, Bool, true, not, List, [], ◌∷◌, ◌++◌, map, filter, length, All, slice_index, slice_index_or}
 use Rattle.wh_base.specs.declared.value.Value.{Value}
 use Rattle.wh_base.specs.Columns.{picked}
 use Rattle.wh_base.specs.Value.{row_eq}
@@ -44,10 +44,6 @@ pub record AreKeyed (test : List Value → Bool) (slots : List Slot) (keys : Lis
 pub record IsFound (test : List Value → Bool) (slots : List Slot) (slot : ℕ) : Type 0 where
   pub within : slot < length slots
   pub passes : (d : Slot) → is_live_with test (slice_index_or slots slot d) ≡ true
-
--- each of some places is among others
-abbrev pub AreAmong : List ℕ → List ℕ → Type 0
-AreAmong places columns = All (Contains columns) places
 
 -- the index finds each of the rows by its values at the places, and has room for more
 pub record IsIndexOf (rows : List (List Value)) (spare : ℕ) (index : Index) : Type 0 where

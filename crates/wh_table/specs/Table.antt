@@ -1,5 +1,5 @@
 -- What contracts see of a table with indexes.
-use Rattle.std.specs.Prelude.{◌≡◌, ◌<◌, ℕ, true, false, List, filter, length, All, Any, IsPermutation, nat_eq}
+use Rattle.std.specs.Prelude.{◌≡◌, ◌<◌, ℕ, true, false, List, filter, length, All, Any, Contains, IsPermutation, nat_eq}
 use Rattle.std.specs.List.{IsDistinct, list_all, list_any}
 use Rattle.wh_base.specs.declared.value.Delta.{Delta}
 use Rattle.wh_base.specs.declared.value.Value.{Value}
@@ -23,6 +23,14 @@ pub record IsColumnSet (width : ℕ) (places : List ℕ) : Type 0 where
 -- places are those of an indexed set, each once, in any order
 abbrev pub IsIndexed : List (List ℕ) → List ℕ → Type 0
 IsIndexed indexes places = Any (λ set. IsPermutation set places) indexes
+
+-- each of some places is among columns
+abbrev pub AreAmong : List ℕ → List ℕ → Type 0
+AreAmong places columns = All (Contains columns) places
+
+-- the places of some indexed set are among columns
+abbrev pub HasSetWithin : List (List ℕ) → List ℕ → Type 0
+HasSetWithin indexes columns = Any (λ set. AreAmong set columns) indexes
 
 -- the rows whose values at the places are these
 abbrev pub matching : List ℕ → List Value → List (List Value) → List (List Value)

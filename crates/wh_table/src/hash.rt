@@ -3,7 +3,7 @@ ghost use Rattle.std.specs.Prelude.{◌≡◌, ◌<◌, ℕ, List, length, fold,
 ghost use Rattle.wh_base.specs.Columns.{picked, value_at};
 ghost use Rattle.wh_base.specs.declared.value.Value.{Value};
 ghost use Rattle.wh_table.specs.Hash.{stirred, hash_with, hash_of, key_at};
-ghost use Rattle.wh_table.specs.Slots.{AreAmong};
+ghost use Rattle.wh_table.specs.Table.{AreAmong};
 
 use wh_base::Value;
 

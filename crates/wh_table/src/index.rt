@@ -2,7 +2,8 @@
 ghost use Rattle.std.specs.Prelude.{◌≡◌, ◌+◌, ◌<◌, ◌≤◌, ℕ, [], ◌∷◌, ◌++◌, List, length, map, All, Any, Contains, IsPermutation, IsTrue, IfOk, OnOk, MatchOption};
 ghost use Rattle.wh_base.specs.declared.value.Value.{Value};
 ghost use Rattle.wh_table.specs.Hash.{key_at, hash_of};
-ghost use Rattle.wh_table.specs.Slots.{AreAmong, IsIndexOf, AreIndexesOf, column_sets, rows_of, linked, relinked, with_keys};
+ghost use Rattle.wh_table.specs.Table.{AreAmong, HasSetWithin};
+ghost use Rattle.wh_table.specs.Slots.{IsIndexOf, AreIndexesOf, column_sets, rows_of, linked, relinked, with_keys};
 
 use crate::hash::{hash_at, row_hash};
 use crate::slot::Slot;
@@ -102,14 +103,11 @@ fn is_among(columns: &[u32], place: u32) -> bool
     false
 }
 
-/// Whether an index is by these columns, in any order.
-fn is_by(places: &[u32], columns: &[u32]) -> bool
+/// Whether each of some places is among columns.
+fn are_among(places: &[u32], columns: &[u32]) -> bool
     ensures yes { IsTrue result → AreAmong places.now columns.now }
-    ensures no { IsPermutation places.now columns.now → IsTrue result }
+    ensures no { AreAmong places.now columns.now → IsTrue result }
 {
-    if places.len() != columns.len() {
-        return false;
-    }
     for place in places {
         if !is_among(columns, *place) {
             return false;
@@ -118,16 +116,31 @@ fn is_by(places: &[u32], columns: &[u32]) -> bool
     true
 }
 
-/// The index by these columns.
-pub(crate) fn index_by<'a>(indexes: &'a [Index], columns: &[u32]) -> &'a Index
-    requires { Any (λ set. IsPermutation set columns.now) (column_sets indexes.now) }
+/// The first index whose columns are among these.
+fn first_within<'a>(indexes: &'a [Index], columns: &[u32]) -> &'a Index
+    requires { HasSetWithin (column_sets indexes.now) columns.now }
     ensures one_of { Contains indexes.now result.now }
     ensures among { AreAmong result.now.places columns.now }
 {
     for index in indexes {
-        if is_by(index.places.as_slice(), columns) {
+        if are_among(index.places.as_slice(), columns) {
             return index;
         }
     }
     unreachable!()
+}
+
+/// The first index with the most columns of those whose columns are among these.
+pub(crate) fn index_within<'a>(indexes: &'a [Index], columns: &[u32]) -> &'a Index
+    requires { HasSetWithin (column_sets indexes.now) columns.now }
+    ensures one_of { Contains indexes.now result.now }
+    ensures among { AreAmong result.now.places columns.now }
+{
+    let mut chosen = first_within(indexes, columns);
+    for index in indexes {
+        if index.places.len() > chosen.places.len() && are_among(index.places.as_slice(), columns) {
+            chosen = index;
+        }
+    }
+    chosen
 }

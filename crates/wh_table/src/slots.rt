@@ -2,10 +2,12 @@ ghost use Rattle.std.specs.Prelude.{◌≡◌, ◌+◌, ◌<◌, ◌≤◌, [], 
 ghost use Rattle.wh_base.specs.RowSet.{has, AreDistinct};
 ghost use Rattle.wh_base.specs.Tables.{without};
 ghost use Rattle.wh_table.specs.Slots.{SlottedRows, live_rows, rows_of};
-ghost use Rattle.wh_table.specs.Table.{IsIndexed, matching};
+ghost use Rattle.wh_table.specs.Table.{HasSetWithin, matching};
 
 use crate::hash::{asked_hash, row_hash};
-use crate::index::{Index, index_by, link_all, new_indexes, relink_all, relink_whole, reserve_all};
+use crate::index::{
+    Index, index_within, link_all, new_indexes, relink_all, relink_whole, reserve_all,
+};
 use crate::slot::Slot;
 use crate::walk::{copies_where, slot_of, slot_where};
 use std::alloc::Global;
@@ -69,36 +71,38 @@ impl Slots {
         live_copies(alloc, self.slots.as_slice())
     }
 
-    /// Copies of the rows with these values at the columns of an indexed set, the last one first.
+    /// Copies of the rows with these values at the columns, the last one first. An indexed set is among the columns.
     pub(crate) fn copies_where(
         &self,
         alloc: Global,
         cols: &[u32],
         vals: &[Value],
     ) -> Result<Rows, NoMemory>
-        requires indexed { IsIndexed self.now.indexes cols.now }
-        requires one_each { length vals.now ≡ length cols.now }
+        requires { HasSetWithin self.now.indexes cols.now }
         ensures { IfOk result (λ rows. rows ≡ reverse (matching cols.now vals.now self.now.rows)) }
     {
-        let index = index_by(self.indexes.as_slice(), cols);
+        if vals.len() != cols.len() {
+            return Ok(Rows::new(alloc));
+        }
+        let index = index_within(self.indexes.as_slice(), cols);
         let key = asked_hash(index.places.as_slice(), cols, vals);
         copies_where(alloc, &index.chains, key, self.slots.as_slice(), cols, vals)
     }
 
-    /// A copy of the last row with these values at the columns of an indexed set.
+    /// A copy of the last row with these values at the columns. An indexed set is among the columns.
     pub(crate) fn copy_where(
         &self,
         alloc: Global,
         cols: &[u32],
         vals: &[Value],
     ) -> Result<Option<Row>, NoMemory>
-        requires indexed { IsIndexed self.now.indexes cols.now }
+        requires within { HasSetWithin self.now.indexes cols.now }
         requires one_each { length vals.now ≡ length cols.now }
         ensures { IfOk result (λ found. MatchOption found
             (matching cols.now vals.now self.now.rows ≡ [])
             (λ row. IsTrue (has (matching cols.now vals.now self.now.rows) row))) }
     {
-        let index = index_by(self.indexes.as_slice(), cols);
+        let index = index_within(self.indexes.as_slice(), cols);
         let key = asked_hash(index.places.as_slice(), cols, vals);
         match slot_where(&index.chains, key, self.slots.as_slice(), cols, vals) {
             Some(slot) => Ok(Some(self.slots[slot].row.copy(alloc)?)),

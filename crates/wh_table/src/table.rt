@@ -1,7 +1,7 @@
 ghost use Rattle.std.specs.Prelude.{◌≡◌, ◌+◌, ◌≤◌, [], ◌++◌, length, vec_len, All, IfOk, OnOk, OnErr, MatchOption, IsTrue};
 ghost use Rattle.wh_base.specs.RowSet.{has, AreDistinct, SameRows, IsSetOf};
 ghost use Rattle.wh_base.specs.Tables.{without};
-ghost use Rattle.wh_table.specs.Table.{IsColumnSet, IsIndexed, matching, CanApply};
+ghost use Rattle.wh_table.specs.Table.{IsColumnSet, IsIndexed, HasSetWithin, matching, CanApply};
 
 use crate::prepared::Prepared;
 use crate::slots::Slots;
@@ -79,6 +79,24 @@ impl Table {
     ) -> Result<Rows, NoMemory>
         requires indexed { IsIndexed self.now.indexes cols.now }
         requires one_each { length vals.now ≡ length cols.now }
+        ensures rows { IfOk result (λ rows. IsSetOf rows (matching cols.now vals.now self.now.rows)) }
+        ensures probes { IfOk result (λ rows. steps.new.probes ≡ steps.old.probes + 1 + length rows) }
+        ensures probes_at_error { OnErr result (steps.new.probes ≡ steps.old.probes + 1) }
+        ensures scans { steps.new.scans ≡ steps.old.scans }
+    {
+        self.probe_within(alloc, cols, vals, steps)
+    }
+
+    /// The rows with these values at columns, by the largest indexed set that is among the columns: one probe, and one more for
+    /// each answer.
+    pub fn probe_within<L: Ledger>(
+        &self,
+        alloc: Global,
+        cols: &Places,
+        vals: &Row,
+        steps: &mut Steps<L>,
+    ) -> Result<Rows, NoMemory>
+        requires { HasSetWithin self.now.indexes cols.now }
         ensures rows { IfOk result (λ rows. IsSetOf rows (matching cols.now vals.now self.now.rows)) }
         ensures probes { IfOk result (λ rows. steps.new.probes ≡ steps.old.probes + 1 + length rows) }
         ensures probes_at_error { OnErr result (steps.new.probes ≡ steps.old.probes + 1) }

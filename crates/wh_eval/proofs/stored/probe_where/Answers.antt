@@ -1,9 +1,9 @@
-use Rattle.std.proofs.lemmas.Result.{IfOk-weaker}
-use Rattle.wh_eval.proofs.StoredLemmas.{narrowed_set}
+use Rattle.std.proofs.Common.{sym, subst}
+use Rattle.wh_table.specs.Table.{HasSetWithin}
+use Rattle.wh_eval.proofs.StoredLemmas.{within_first}
 use Rattle.wh_eval.proofs.stored.probe_where.Goals as goal
 
-pub returns-clause-rows : goal.returns-clause-rows
-returns-clause-rows g c =
-    IfOk-weaker c.rows_where.result _ _
-    (λ kept. narrowed_set c.args.columns.now c.args.names.now c.args.vals.now c.args.table.now.rows c.in_ok-found.found kept c.requires.some c.in_ok-found.ensures.rows)
-    c.rows_where.ensures
+pub probe_within-requires : goal.probe_within-requires
+probe_within-requires g c =
+    subst (HasSetWithin c.args.table.now.indexes) (sym c.in_ok-places.ensures)
+    (within_first c.args.table.now.indexes c.args.columns.now c.args.names.now c.requires.singles c.requires.columns c.requires.some)

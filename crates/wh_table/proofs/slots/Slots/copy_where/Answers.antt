@@ -8,9 +8,9 @@ use Rattle.wh_table.proofs.slots.Slots.copy_where.Goals as goal
 
 pub slot_where-requires : goal.slot_where-requires
 slot_where-requires c =
-    keyed_index c.args.cols.now c.args.vals.now c.index_by-index.result.now c.self.inside.indexes.items c.as_slice-3.result.now c.self.inside.spare c.asked_hash-key.result
+    keyed_index c.args.cols.now c.args.vals.now c.index_within-index.result.now c.self.inside.indexes.items c.as_slice-3.result.now c.self.inside.spare c.asked_hash-key.result
     (subst (λ ss. AreIndexesOf (rows_of ss) c.self.inside.spare c.self.inside.indexes.items) (sym c.as_slice-3.ensures.value) c.self.invariant.0.indexed)
-    (subst (λ xs. Contains xs c.index_by-index.result.now) c.as_slice.ensures.value c.index_by-index.ensures.one_of)
+    (subst (λ xs. Contains xs c.index_within-index.result.now) c.as_slice.ensures.value c.index_within-index.ensures.one_of)
     (λ row h. c.asked_hash-key.ensures row h ∙ ap (λ ps. key_at ps row) c.as_slice-2.ensures)
 
 pub returns-in_ok-copy-in-Some : goal.returns-in_ok-copy-in-Some

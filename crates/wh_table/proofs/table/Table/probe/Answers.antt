@@ -1,11 +1,5 @@
-use Rattle.std.proofs.Common.{◌≡◌, reverse, rules}
-use Rattle.wh_base.specs.RowSet.{AreDistinct}
-use Rattle.wh_table.specs.Table.{matching}
-use Rattle.wh_table.proofs.TableLemmas.{IsSetOf-reverse, AreDistinct-matching}
+use Rattle.wh_table.proofs.TableLemmas.{indexed_within}
 use Rattle.wh_table.proofs.table.Table.probe.Goals as goal
 
-pub returns-clause-rows : goal.returns-clause-rows
-returns-clause-rows g c =
-    let found : c.in_ok-rows.rows ≡ reverse (matching c.args.cols.now c.args.vals.now c.args.self.now.rows) = search rules in
-    let distinct : AreDistinct c.args.self.now.rows = search rules in
-    IsSetOf-reverse _ _ found (AreDistinct-matching c.args.cols.now c.args.vals.now c.args.self.now.rows distinct)
+pub probe_within-requires : goal.probe_within-requires
+probe_within-requires g c = indexed_within c.args.self.now.indexes c.args.cols.now c.requires.indexed

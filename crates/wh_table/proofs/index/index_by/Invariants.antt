@@ -1,6 +1,0 @@
-use Rattle.std.proofs.Common.{◌<◌, ℕ, IsPermutation, get_or}
-use Rattle.wh_table.specs.declared.index.Index.{Index}
-use Rattle.wh_table.proofs.index.index_by.Given as goal
-
-abbrev pub invariant-loop-index : goal.invariant-loop-index
-invariant-loop-index l = (k : ℕ) (d : Index) → k < l.index-index → IsPermutation (get_or l.indexes k d).places l.columns → ⊥
