@@ -1,5 +1,5 @@
 -- Commands that write in place leave the other file.
-use Rattle.std.proofs.Common.{◌≡◌, ℕ, zero, suc, List, [], ◌∷◌, Option, None, Some, refl, sym, ◌∙◌, ap, subst}
+use Rattle.std.proofs.Common.{◌≡◌, ℕ, zero, suc, List, [], ◌∷◌, Option, None, Some, refl, sym, ◌∙◌, subst}
 use Rattle.wh_io.specs.Files.{Held}
 use Rattle.wh_runs.specs.Outcome.{Contents, contents_after}
 use Rattle.wh_runs.specs.Disks.{Which, first_file, second_file, other, part, with_part}
@@ -31,7 +31,7 @@ module _ (program : Program) (sound : IsSound program) where
   steps_other (step ∷ steps) c (suc k) allowed =
       let next = step_contents program.format in_place step.change c in
       subst (λ (w : Which). part (other w) (contents_after next (pieces_by program.format in_place steps next) k) ≡ part (other w) next) (one_active step.change c allowed.0)
-          (steps_other steps next k (subst (AreAllowed program.format in_place steps) (sym (one_means step.change c allowed.0)) allowed.1))
+      (steps_other steps next k (subst (AreAllowed program.format in_place steps) (sym (one_means step.change c allowed.0)) allowed.1))
       ∙ one_other step.change c
 
   by_manner : (manner : Manner) → manner ≡ in_place → (steps : List (Step program.format.Change)) (c : Contents) (k : ℕ) → AreAllowed program.format manner steps (program.format.meaning c)

@@ -8,3 +8,4 @@ pub mod Unwritten
 pub mod Asking
 pub mod Following
 pub mod Beside
+pub mod Begun

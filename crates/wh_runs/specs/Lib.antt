@@ -9,4 +9,5 @@ pub mod History
 pub mod Laws
 pub mod Counter
 pub mod Asked
+pub mod Created
 pub mod Rows

@@ -75,7 +75,7 @@ fn print<O: Sink>(out: &mut O, count: u64) -> Result<(), NoAnswer>
 }
 
 #[tactic(auto, using(crate::proofs::Unwritten::unwritten_then))]
-fn both_counted<D: Disk>(first: &mut D, second: &mut D) -> Result<u64, Failed>
+pub(crate) fn both_counted<D: Disk>(first: &mut D, second: &mut D) -> Result<u64, Failed>
     ensures count { CountsBoth (form D.Disk) (both first.old second.old) (both first.new second.new) result }
     ensures unwritten { AreUnwritten (form D.Disk) (both first.old second.old) (both first.new second.new) }
     ensures cause { IsCountedPair (is_err result) (D.faults first.old) (D.faults first.new) (D.faults second.old) (D.faults second.new) }

@@ -9,11 +9,13 @@
 //!
 //! What stands here speaks of bytes, texts, exits, crashes and histories alone, and holds of any format, commands, statuses and refusals, of any
 //! form of disks, and of any object that reads files by name. What a store holds, its frames, the words that name a command, its statuses and the
-//! lines on `err` stand above, beside the commands. The only code is what all commands on the two files do first: both are opened. A counter in
-//! two files is the example on which the definitions are tried, and bodies are shown that they refuse.
+//! lines on `err` stand above, beside the commands. The only code is what all commands on the two files do first, that both are opened, and a
+//! counter in two files: the example on which the definitions are tried, which shows bodies that they refuse, and two commands that answer what
+//! they should.
 #![tactic(auto)]
 
 mod counter;
+mod creating;
 mod laws;
 mod open;
 mod program;
@@ -21,6 +23,7 @@ mod rows;
 mod shown;
 
 pub use counter::{Counter, NoAnswer, ask};
+pub use creating::{NotMade, create};
 pub use laws::{
     asking_keeps, crash_reaches, done_is_exact, faultless_is_planned, headline,
     in_place_keeps_other, keeps_acknowledged, quiet_reads_nothing, refusal_keeps, refusal_rests,
