@@ -9,3 +9,6 @@ mod rewriting;
 mod wanted;
 
 pub use rewriting::rewrite;
+
+#[cfg(test)]
+mod tests;
