@@ -9,3 +9,4 @@ pub mod Whole
 pub mod PartLemmas
 pub mod Arms
 pub mod Falls
+pub mod Wide

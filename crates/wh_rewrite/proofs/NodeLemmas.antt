@@ -1,5 +1,6 @@
 -- The meaning, the rules, the numbers and the place of each kind of node.
 use Rattle.std.proofs.Common.{◌≡◌, ℕ, ◌+◌, Bool, true, not, ◌&&◌, List, [], ◌∷◌, ◌++◌, map, filter, length, length-append, Contains, refl, sym, ap, subst, ◌∙◌, inl, inr, ◌⊎◌}
+use Rattle.std.proofs.lemmas.Bool.{and_parts}
 use Rattle.std.proofs.lemmas.List.{length-map}
 use Rattle.std.proofs.lemmas.List.Elements.{Contains-append_cases}
 use Rattle.wh_base.specs.declared.cond.Cond.{Cond, out-Cond}
@@ -15,7 +16,7 @@ use Rattle.wh_base.specs.declared.value.Value.{Value}
 use Rattle.wh_base.specs.Columns.{names_of, others, cut, place_of, value_at}
 use Rattle.wh_base.specs.Cond.{IsTyped, holds}
 use Rattle.wh_base.specs.RowSet.{has}
-use Rattle.wh_base.specs.Tables.{Table, agree, joined, arranged}
+use Rattle.wh_base.specs.Tables.{Table, arranged, join, joined, agree, union}
 use Rattle.wh_expr.specs.declared.expr.Expr.{Expr, out-Expr}
 use Rattle.wh_expr.specs.declared.expr.Expr.TheOpen.{Expr-F}
 use Rattle.wh_expr.specs.declared.expr.Expr.TheViews.{roll-Expr}
@@ -204,47 +205,54 @@ selection_is = conds.ind-Cond Chosen (λ x y is. subst (λ z. Chosen (roll-Cond 
 abbrev pub IsWide : Table → Type 0
 IsWide t = (x : List Value) → Contains t.rows x → length x ≡ length t.columns
 
-wide_map : (columns names : List (List ℕ)) (rows : List (List Value)) (x : List Value) → Contains (map (cut columns names) rows) x → length x ≡ length names
+pub wide_map : (columns names : List (List ℕ)) (rows : List (List Value)) (x : List Value) → Contains (map (cut columns names) rows) x → length x ≡ length names
 wide_map columns names rows x h =
     let m = map_from (cut columns names) rows x h in
     ap length (sym m.2) ∙ length-map (map (place_of columns) names) (value_at m.0) ∙ length-map names (place_of columns)
 
-module _ (heads : List Head) (rows : ℕ → List (List Value)) (wide : AreWide heads rows) where
+module _ (heads : List Head) (held : ℕ → Bool) (rows : ℕ → List (List Value)) (wide : AreWide heads held rows) where
   abbrev g : ℕ → Table
   g = tables heads rows
 
   abbrev Is : Expr → Type 0
-  Is e = IsWide (meaning g e)
+  Is e = uses_only held e ≡ true → IsWide (meaning g e)
 
   abbrev Part : Type 0
   Part = Such the_family (claims Is) member-Expr
 
-  rolled : (x : Expr-F Expr) → IsWide (meaning_at g (map-Expr Expr Table (meaning g) x)) → Is (roll-Expr x)
+  rolled : (x : Expr-F Expr) → IsWide (meaning_at g (map-Expr Expr Table (meaning g) x)) → IsWide (meaning g (roll-Expr x))
   rolled x h = subst IsWide (sym (fold-roll-Expr Table (meaning_at g) x)) h
 
-  at : (y : Expr-F Part) → Is (roll-Expr (map-Expr Part Expr (λ e. e.0) y))
-  at (Expr-F.Base n) = rolled (Expr-F.Base n) (λ x h. wide n x ((has_decides (rows n) x).1 h))
-  at (Expr-F.Select c p) = rolled (Expr-F.Select c p.0) (λ x h. p.1 x (filter_from (holds c (meaning g p.0).columns) (meaning g p.0).rows x h).0)
-  at (Expr-F.Project names p) = rolled (Expr-F.Project names p.0) (λ x h. wide_map (meaning g p.0).columns names (meaning g p.0).rows x h)
-  at (Expr-F.Join p q) =
-      rolled (Expr-F.Join p.0 q.0)
-      (λ x h.
-      let t = meaning g p.0 in
-      let u = meaning g q.0 in
-      let a = flat_from (joined t.columns u.columns u.rows) t.rows x h in
+  used_of : (x : Expr-F Expr) → uses_only held (roll-Expr x) ≡ true → uses_only_at held (map-Expr Expr Bool (uses_only held) x) ≡ true
+  used_of x used = sym (fold-roll-Expr Bool (uses_only_at held) x) ∙ used
+
+  joined_wide : (t u : Table) → IsWide t → IsWide (join t u)
+  joined_wide t u h x k =
+      let a = flat_from (joined t.columns u.columns u.rows) t.rows x k in
       let b = map_from (λ y. a.0 ++ cut u.columns (others t.columns u.columns) y) (filter (agree t.columns u.columns a.0) u.rows) x a.2 in
       ap length (sym b.2)
       ∙ length-append a.0 (cut u.columns (others t.columns u.columns) b.0)
-      ∙ (λ i. p.1 a.0 a.1 i + (length-map (map (place_of u.columns) (others t.columns u.columns)) (value_at b.0) ∙ length-map (others t.columns u.columns) (place_of u.columns)) i)
-      ∙ sym (length-append t.columns (others t.columns u.columns)))
-  at (Expr-F.Union p q) =
-      rolled (Expr-F.Union p.0 q.0)
-      (λ x h.
-      let t = meaning g p.0 in
-      let u = meaning g q.0 in
-      elim (Contains-append_cases t.rows (arranged t u) x h) [ inl k ↦ p.1 x k | inr k ↦ wide_map u.columns t.columns u.rows x k ])
-  at (Expr-F.Minus p q) = rolled (Expr-F.Minus p.0 q.0) (λ x h. p.1 x (filter_from (λ r. not (has (arranged (meaning g p.0) (meaning g q.0)) r)) (meaning g p.0).rows x h).0)
-  at (Expr-F.Rename pairs p) = rolled (Expr-F.Rename pairs p.0) (λ x h. p.1 x h ∙ sym (length-map (meaning g p.0).columns (new_name pairs)))
+      ∙ (λ i. h a.0 a.1 i + (length-map (map (place_of u.columns) (others t.columns u.columns)) (value_at b.0) ∙ length-map (others t.columns u.columns) (place_of u.columns)) i)
+      ∙ sym (length-append t.columns (others t.columns u.columns))
 
-  pub wide_meaning : (e : Expr) → IsWide (meaning (tables heads rows) e)
+  united_wide : (t u : Table) → IsWide t → IsWide (union t u)
+  united_wide t u h x k = elim (Contains-append_cases t.rows (arranged t u) x k) [ inl l ↦ h x l | inr r ↦ wide_map u.columns t.columns u.rows x r ]
+
+  at : (y : Expr-F Part) → Is (roll-Expr (map-Expr Part Expr (λ e. e.0) y))
+  at (Expr-F.Base n) used = rolled (Expr-F.Base n) (λ x h. wide n (used_of (Expr-F.Base n) used) x ((has_decides (rows n) x).1 h))
+  at (Expr-F.Select c p) used = rolled (Expr-F.Select c p.0) (λ x h. p.1 (used_of (Expr-F.Select c p.0) used) x (filter_from (holds c (meaning g p.0).columns) (meaning g p.0).rows x h).0)
+  at (Expr-F.Project names p) used = rolled (Expr-F.Project names p.0) (λ x h. wide_map (meaning g p.0).columns names (meaning g p.0).rows x h)
+  at (Expr-F.Join p q) used =
+      let both = and_parts (uses_only held p.0) (uses_only held q.0) (used_of (Expr-F.Join p.0 q.0) used) in
+      rolled (Expr-F.Join p.0 q.0) (joined_wide (meaning g p.0) (meaning g q.0) (p.1 both.0))
+  at (Expr-F.Union p q) used =
+      let both = and_parts (uses_only held p.0) (uses_only held q.0) (used_of (Expr-F.Union p.0 q.0) used) in
+      rolled (Expr-F.Union p.0 q.0) (united_wide (meaning g p.0) (meaning g q.0) (p.1 both.0))
+  at (Expr-F.Minus p q) used =
+      let both = and_parts (uses_only held p.0) (uses_only held q.0) (used_of (Expr-F.Minus p.0 q.0) used) in
+      rolled (Expr-F.Minus p.0 q.0) (λ x h. p.1 both.0 x (filter_from (λ r. not (has (arranged (meaning g p.0) (meaning g q.0)) r)) (meaning g p.0).rows x h).0)
+  at (Expr-F.Rename pairs p) used =
+      rolled (Expr-F.Rename pairs p.0) (λ x h. p.1 (used_of (Expr-F.Rename pairs p.0) used) x h ∙ sym (length-map (meaning g p.0).columns (new_name pairs)))
+
+  pub wide_meaning : (e : Expr) → uses_only held e ≡ true → IsWide (meaning (tables heads rows) e)
   wide_meaning = ind-Expr Is (λ x y is. subst (λ z. Is (roll-Expr z)) is (at y))

@@ -119,7 +119,10 @@ module _ (heads : List Head) (c l r s : Cond) (a b : Expr) (w : Wanted) (asked :
     above = chosen heads s (Join x y) (well_Join heads x y h.typed k.typed ((λ i. join_causes (h.attrs i) (k.attrs i)) ∙ sides.causes)) (subst (IsTyped s) (sym attrs_both) cond_rest)
         may_stand (ap may_project (outs-Join x y)) (pushed_Join heads x y ∙ and_from (is_pushed heads x) (is_pushed heads y) h.pushed k.pushed)
 
-    module _ (rows : ℕ → List (List Value)) (wide : AreWide heads rows) where
+    module _ (held : ℕ → Bool) (rows : ℕ → List (List Value)) (used : uses_only held (Join a b) ≡ true) (wide : AreWide heads held rows) where
+      parts_used : (uses_only held a ≡ true) × (uses_only held b ≡ true)
+      parts_used = and_parts (uses_only held a) (uses_only held b) (sym (uses_Join held a b) ∙ used)
+
       abbrev g : ℕ → Table
       g = tables heads rows
 
@@ -127,7 +130,7 @@ module _ (heads : List Head) (c l r s : Cond) (a b : Expr) (w : Wanted) (asked :
       columns_meant e = columns_are heads e ∙ sym (columns-meaning heads rows e)
 
       passes : SameTable (select s (join (select l (meaning (tables heads rows) a)) (select r (meaning (tables heads rows) b)))) (select c (join (meaning (tables heads rows) a) (meaning (tables heads rows) b)))
-      passes = select_join (meaning (tables heads rows) a) (meaning (tables heads rows) b) (wide_meaning heads rows wide a) c l r s
+      passes = select_join (meaning (tables heads rows) a) (meaning (tables heads rows) b) (wide_meaning heads held rows wide a parts_used.0) c l r s
           (ls ∙ ap (λ cols. filter (is_within cols) (conjuncts c)) (columns_meant a))
           (rs ∙ ap (λ cols. filter (is_within cols) (conjuncts c)) (columns_meant b))
           (ss ∙ (λ i. rest_of (is_within (columns_meant a i)) (is_within (columns_meant b i)) (conjuncts c)))
@@ -142,7 +145,7 @@ module _ (heads : List Head) (c l r s : Cond) (a b : Expr) (w : Wanted) (asked :
           (along (select s (meaning (tables heads rows) (Join x y))) (select s (join t u)) _ (select c (join (meaning (tables heads rows) a) (meaning (tables heads rows) b)))
           (ap (select s) (meaning-Join (tables heads rows) x y)) (ap (select c) (meaning-Join (tables heads rows) a b))
           (same_trans (select s (join t u)) (select s (join v z)) (select c (join (meaning (tables heads rows) a) (meaning (tables heads rows) b)))
-          (SameTable-select s (join t u) (join v z) (SameTable-join t u v z (h.means rows wide) (k.means rows wide))) passes))
+          (SameTable-select s (join t u) (join v z) (SameTable-join t u v z (h.means held rows parts_used.0 wide) (k.means held rows parts_used.1 wide))) passes))
 
     pub step_Join : IsRewritten heads (Join a b) c w (projection w (selection s (Join x y)))
     step_Join = projected heads (Join a b) c (selection s (Join x y)) inner above.may w asked.columns
@@ -232,14 +235,15 @@ pub step_Union : (heads : List Head) (c : Cond) (a b : Expr) (w : Wanted) (asked
 step_Union heads c a b w asked x y h k = record {
   typed = well_Union heads x y h.typed k.typed ((λ i. same_head_causes (h.attrs i) (k.attrs i)) ∙ same_head (typing heads a).attrs (typing heads b).attrs w (parts heads c a b w asked).causes);
   attrs = ap (λ (t : Typing). t.attrs) (typing_Union heads x y) ∙ h.attrs ∙ ap (wanted_attrs w) (sym (attrs_united heads c a b w asked));
-  means = λ rows wide.
+  means = λ held rows used wide.
       let g = tables heads rows in
       let t = meaning g a in
       let u = meaning g b in
+      let both = and_parts (uses_only held a) (uses_only held b) (sym (uses_Union held a b) ∙ used) in
       along (meaning g (Union x y)) (union (meaning g x) (meaning g y)) (wanted_of w (select c (meaning g (Union a b)))) (wanted_of w (select c (union t u)))
       (meaning-Union g x y) (ap (λ v. wanted_of w (select c v)) (meaning-Union g a b))
       (same_trans (union (meaning g x) (meaning g y)) (union (wanted_of w (select c t)) (wanted_of w (select c u))) (wanted_of w (select c (union t u)))
-      (SameTable-union (meaning g x) (meaning g y) (wanted_of w (select c t)) (wanted_of w (select c u)) (h.means rows wide) (k.means rows wide))
+      (SameTable-union (meaning g x) (meaning g y) (wanted_of w (select c t)) (wanted_of w (select c u)) (h.means held rows both.0 wide) (k.means held rows both.1 wide))
       (united_means w c t u (typing heads a).attrs (columns-meaning heads rows a) (columns_first heads c a b w asked)
       (left_known heads c a b (parts heads c a b w asked).right (parts heads c a b w asked).causes (cond_first heads c a b w asked) rows)));
   pushed = pushed_Union heads x y ∙ and_from (is_pushed heads x) (is_pushed heads y) h.pushed k.pushed;
@@ -271,13 +275,14 @@ module _ (heads : List Head) (c : Cond) (a b : Expr) (w : Wanted) (asked : IsAsk
       inner = record {
         typed = well_Minus heads x y h.typed k.typed ((λ i. same_head_causes (h.attrs i) (k.attrs i)) ∙ less_parts.causes);
         attrs = ap (λ (t : Typing). t.attrs) (typing_Minus heads x y) ∙ h.attrs ∙ sym attrs_less;
-        means = λ rows wide.
+        means = λ held rows used wide.
             let g = tables heads rows in
             let t = meaning g a in
             let u = meaning g b in
+            let both = and_parts (uses_only held a) (uses_only held b) (sym (uses_Minus held a b) ∙ used) in
             along (meaning g (Minus x y)) (minus (meaning g x) (meaning g y)) (select c (meaning g (Minus a b))) (select c (minus t u)) (meaning-Minus g x y) (ap (select c) (meaning-Minus g a b))
             (same_trans (minus (meaning g x) (meaning g y)) (minus (select c t) (select c u)) (select c (minus t u))
-            (SameTable-minus (meaning g x) (meaning g y) (select c t) (select c u) (h.means rows wide) (k.means rows wide))
+            (SameTable-minus (meaning g x) (meaning g y) (select c t) (select c u) (h.means held rows both.0 wide) (k.means held rows both.1 wide))
             (select_minus c t u (left_known heads c a b less_parts.right less_parts.causes cond_kept rows)));
         pushed = pushed_Minus heads x y ∙ and_from (is_pushed heads x) (is_pushed heads y) h.pushed k.pushed;
         numbers = λ held used.

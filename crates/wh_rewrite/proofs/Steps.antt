@@ -54,10 +54,10 @@ module _ (heads : List Head) (e : Expr) (c : Cond) (x : Expr) (h : IsRewritten h
   projected (Only names) k = record {
     typed = well_Project heads names x h.typed (subst (λ attrs. project_causes names attrs ≡ []) (sym h.attrs) k);
     attrs = ap (λ (t : Typing). t.attrs) (typing_Project heads names x) ∙ ap (λ attrs. attrs_named attrs names) h.attrs;
-    means = λ rows wide.
+    means = λ held rows used wide.
         let g = tables heads rows in
         along (meaning g (Project names x)) (project names (meaning g x)) (project names (select c (meaning g e))) (project names (select c (meaning g e))) (meaning-Project g names x) refl
-        (SameTable-project names (meaning g x) (select c (meaning g e)) (h.means rows wide));
+        (SameTable-project names (meaning g x) (select c (meaning g e)) (h.means held rows used wide));
     pushed = pushed_Project heads names x ∙ and_so (may_project (out-Expr x)) (is_pushed heads x) may h.pushed;
     numbers = λ held k. uses_Project held names x ∙ h.numbers held k;
   }
@@ -109,7 +109,7 @@ step_Base heads n c w asked =
     let inner : IsRewritten heads (Base n) c All (selection c (Base n)) = record {
       typed = k.typed;
       attrs = k.attrs;
-      means = λ rows wide. k.means rows;
+      means = λ held rows used wide. k.means rows;
       pushed = k.pushed;
       numbers = λ held used. k.numbers held ∙ used;
     } in
@@ -142,9 +142,9 @@ module _ (heads : List Head) (c d both : Cond) (x : Expr) (w : Wanted) (asked : 
   step_Select r h = record {
     typed = h.typed;
     attrs = h.attrs ∙ ap (wanted_attrs w) (sym attrs_above);
-    means = λ rows wide.
+    means = λ held rows used wide.
         let g = tables heads rows in
-        same_trans (meaning g r) (wanted_of w (select both (meaning g x))) (wanted_of w (select c (meaning g (Select d x)))) (h.means rows wide)
+        same_trans (meaning g r) (wanted_of w (select both (meaning g x))) (wanted_of w (select c (meaning g (Select d x)))) (h.means held rows (sym (uses_Select held d x) ∙ used) wide)
         (same_wanted w (select both (meaning g x)) (select c (meaning g (Select d x)))
         (along (select both (meaning g x)) (select both (meaning g x)) (select c (meaning g (Select d x))) (select c (select d (meaning g x))) refl (ap (select c) (meaning-Select g d x))
         (select_select c d both (meaning g x) (by_both (meaning g x).columns))));
@@ -224,7 +224,8 @@ module _ (heads : List Head) (c : Cond) (names : List (List ℕ)) (x : Expr) whe
   step_Project All asked r h = record {
     typed = h.typed;
     attrs = h.attrs ∙ sym attrs_named_above;
-    means = λ rows wide. same_trans (meaning (tables heads rows) r) (project names (select c (meaning (tables heads rows) x))) _ (h.means rows wide) (passed All asked rows);
+    means = λ held rows used wide.
+        same_trans (meaning (tables heads rows) r) (project names (select c (meaning (tables heads rows) x))) _ (h.means held rows (sym (uses_Project held names x) ∙ used) wide) (passed All asked rows);
     pushed = h.pushed;
     numbers = λ held used. h.numbers held (sym (uses_Project held names x) ∙ used);
   }
@@ -233,10 +234,10 @@ module _ (heads : List Head) (c : Cond) (names : List (List ℕ)) (x : Expr) whe
     attrs = h.attrs
         ∙ same_named (typing heads x).attrs (attrs_named (typing heads x).attrs names) fewer (λ n k. ap kind_or_int (sym (named_same (typing heads x).attrs names n (fewer_in fewer asked n k) (named_in (Only fewer) asked n (fewer_in fewer asked n k)))))
         ∙ ap (λ attrs. attrs_named attrs fewer) (sym attrs_named_above);
-    means = λ rows wide.
+    means = λ held rows used wide.
         let g = tables heads rows in
         let t = select c (meaning g x) in
-        same_trans (meaning g r) (project fewer t) (project fewer (select c (meaning g (Project names x)))) (h.means rows wide)
+        same_trans (meaning g r) (project fewer t) (project fewer (select c (meaning g (Project names x)))) (h.means held rows (sym (uses_Project held names x) ∙ used) wide)
         (same_trans (project fewer t) (project fewer (project names t)) (project fewer (select c (meaning g (Project names x))))
         (project_project names fewer t (fewer_in fewer asked))
         (SameTable-project fewer (project names t) (select c (meaning g (Project names x))) (passed (Only fewer) asked rows)));
@@ -275,12 +276,12 @@ module _ (heads : List Head) (c : Cond) (pairs : List Renaming) (x : Expr) (w : 
       inner = record {
         typed = well_Rename heads pairs r h.typed (ap (rename_causes pairs) h.attrs ∙ (parts_Rename heads pairs x asked.typed).1);
         attrs = ap (λ (t : Typing). t.attrs) (typing_Rename heads pairs r) ∙ ap (renamed_attrs pairs) h.attrs ∙ sym attrs_renamed;
-        means = λ rows wide.
+        means = λ held rows used wide.
             let g = tables heads rows in
             let columns : columns_of heads x ≡ (meaning g x).columns = columns_are heads x ∙ sym (columns-meaning heads rows x) in
             along (meaning g (Rename pairs r)) (rename pairs (meaning g r)) (select c (meaning g (Rename pairs x))) (select c (rename pairs (meaning g x))) (meaning-Rename g pairs r) (ap (select c) (meaning-Rename g pairs x))
             (same_trans (rename pairs (meaning g r)) (rename pairs (select (cond_over (old_name pairs (columns_of heads x)) c) (meaning g x))) (select c (rename pairs (meaning g x)))
-            (SameTable-rename pairs (meaning g r) (select (cond_over (old_name pairs (columns_of heads x)) c) (meaning g x)) (h.means rows wide))
+            (SameTable-rename pairs (meaning g r) (select (cond_over (old_name pairs (columns_of heads x)) c) (meaning g x)) (h.means held rows (sym (uses_Rename held pairs x) ∙ used) wide))
             (along (rename pairs (select (cond_over (old_name pairs (columns_of heads x)) c) (meaning g x))) (rename pairs (select (cond_over (old_name pairs (meaning g x).columns) c) (meaning g x)))
             (select c (rename pairs (meaning g x))) (select c (rename pairs (meaning g x))) (ap (λ cols. rename pairs (select (cond_over (old_name pairs cols) c) (meaning g x))) columns) refl
             (select_rename c pairs (meaning g x) (λ n k. let P : List (List ℕ) → Type 0 = λ l. Contains (map (new_name pairs) l) n in subst P (sym (columns-meaning heads rows x)) (new_in n k)))));

@@ -16,6 +16,6 @@ pub asked_whole : (heads : List Head) (e : Expr) → IsWellTyped heads e → IsA
 asked_whole heads e h = record { typed = h; cond = faults_Always (typing heads e).attrs; columns = tt }
 
 pub means_whole : (heads : List Head) (e r : Expr) → IsRewritten heads e Always All r → MeanTheSame heads r e
-means_whole heads e r h rows wide =
+means_whole heads e r h held rows used wide =
     let t = meaning (tables heads rows) e in
-    same_trans (meaning (tables heads rows) r) (select Always t) t (h.means rows wide) (same_sym t (select Always t) (select_all Always t (λ x. holds_Always t.columns x)))
+    same_trans (meaning (tables heads rows) r) (select Always t) t (h.means held rows used wide) (same_sym t (select Always t) (select_all Always t (λ x. holds_Always t.columns x)))

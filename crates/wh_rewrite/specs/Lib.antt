@@ -2,3 +2,4 @@ pub mod Conjuncts
 pub mod Nodes
 pub mod Pushed
 pub mod Rewritten
+pub mod States

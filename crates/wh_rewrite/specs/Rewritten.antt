@@ -16,13 +16,16 @@ use Rattle.wh_rewrite.specs.declared.wanted.Wanted.{Wanted}
 use Rattle.wh_rewrite.specs.declared.wanted.Wanted.TheVariants.{All, Only}
 use Rattle.wh_rewrite.specs.Pushed.{IsPushed}
 
--- each row has a value for each column of its number
-abbrev pub AreWide : List Head → (ℕ → List (List Value)) → Type 0
-AreWide heads rows = (n : ℕ) (row : List Value) → has (rows n) row ≡ true → length row ≡ length (columns_at heads n)
+-- under the numbers that pass a test each row has a value for each column
+abbrev pub AreWide : List Head → (ℕ → Bool) → (ℕ → List (List Value)) → Type 0
+AreWide heads held rows = (n : ℕ) → IsTrue (held n) → (row : List Value) → has (rows n) row ≡ true → length row ≡ length (columns_at heads n)
 
--- both expressions mean the same table, whatever rows stand under the numbers
+-- the first expression means the same table as the second, whatever rows stand under the numbers that the second one names,
+-- as long as each has a value for each column
 abbrev pub MeanTheSame : List Head → Expr → Expr → Type 0
-MeanTheSame heads e f = (rows : ℕ → List (List Value)) → AreWide heads rows → SameTable (meaning (tables heads rows) e) (meaning (tables heads rows) f)
+MeanTheSame heads e f =
+    (held : ℕ → Bool) (rows : ℕ → List (List Value)) → IsTrue (uses_only held f) → AreWide heads held rows
+    → SameTable (meaning (tables heads rows) e) (meaning (tables heads rows) f)
 
 -- the first expression names no number that the second does not name
 abbrev pub NamesNoOther : Expr → Expr → Type 0
@@ -59,6 +62,7 @@ pub record IsAsked (heads : List Head) (e : Expr) (c : Cond) (wanted : Wanted) :
 pub record IsRewritten (heads : List Head) (e : Expr) (c : Cond) (wanted : Wanted) (r : Expr) : Type 0 where
   pub typed : IsWellTyped heads r
   pub attrs : (typing heads r).attrs ≡ wanted_attrs wanted (typing heads e).attrs
-  pub means : (rows : ℕ → List (List Value)) → AreWide heads rows → SameTable (meaning (tables heads rows) r) (wanted_of wanted (select c (meaning (tables heads rows) e)))
+  pub means : (held : ℕ → Bool) (rows : ℕ → List (List Value)) → IsTrue (uses_only held e) → AreWide heads held rows
+      → SameTable (meaning (tables heads rows) r) (wanted_of wanted (select c (meaning (tables heads rows) e)))
   pub pushed : IsPushed heads r
   pub numbers : NamesNoOther r e

@@ -2,10 +2,15 @@
 #![tactic(auto)]
 
 mod conditions;
+mod laws;
 mod names;
 mod nodes;
 mod pushing;
 mod rewriting;
 mod wanted;
 
+pub use laws::states_are_wide;
 pub use rewriting::rewrite;
+
+#[cfg(test)]
+mod tests;

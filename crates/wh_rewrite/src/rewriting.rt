@@ -19,7 +19,7 @@ pub fn rewrite(alloc: Global, q: &Query, plan: &Plan) -> Result<Expr, NoMemory>
     requires typed { IsWellTyped (heads_of plan.now.spec) q.now.expr }
     requires attrs { q.now.attrs ≡ (typing (heads_of plan.now.spec) q.now.expr).attrs }
 
-    // Over all rows that are as wide as the heads, those of every state and its views among them.
+    // Over all rows that are as wide as the heads, as those of every state and its views are.
     ensures meaning { IfOk result (λ e. MeanTheSame (heads_of plan.now.spec) e q.now.expr) }
     ensures pushed { IfOk result (λ e. IsPushed (heads_of plan.now.spec) e) }
     ensures typed { IfOk result (λ e. IsWellTyped (heads_of plan.now.spec) e) }
