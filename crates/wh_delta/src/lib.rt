@@ -11,4 +11,6 @@ pub use member::candidates;
 pub use outward::outward_order;
 
 #[cfg(test)]
+mod join_tests;
+#[cfg(test)]
 mod tests;
