@@ -1,4 +1,5 @@
 mod Attributes
 mod Joins
 mod Orders
+mod Replaced
 mod Turns

@@ -1,12 +1,16 @@
 //! What is needed to maintain stored views by the rows that changed: the order in which a view's relations are joined from one of them on,
-//! and their join by look-ups.
+//! their join by look-ups, and the rows that a view has where one of its members has the changed rows alone.
 #![tactic(auto)]
 
 mod join;
+mod member;
 mod outward;
 
 pub use join::outward_join;
+pub use member::candidates;
 pub use outward::outward_order;
 
+#[cfg(test)]
+mod join_tests;
 #[cfg(test)]
 mod tests;

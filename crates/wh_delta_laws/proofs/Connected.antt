@@ -20,12 +20,12 @@ use Rattle.wh_delta_laws.specs.Connected.{shares_attribute, touches, GoesOutward
 
 -- ---- attributes that are shared
 
-record Shares (spec : Spec) (i k : ℕ) : Type 0 where
-  name : Name
-  left : Contains (columns_of spec i) name
-  right : Contains (columns_of spec k) name
+pub record Shares (spec : Spec) (i k : ℕ) : Type 0 where
+  pub name : Name
+  pub left : Contains (columns_of spec i) name
+  pub right : Contains (columns_of spec k) name
 
-shares_from : (spec : Spec) (i k : ℕ) → shares_attribute spec i k ≡ true → Shares spec i k
+pub shares_from : (spec : Spec) (i k : ℕ) → shares_attribute spec i k ≡ true → Shares spec i k
 shares_from spec i k e =
     let a = any_from (is_in (columns_of spec i)) (columns_of spec k) e in
     record { name = a.0; left = (is_in_decides (columns_of spec i) a.0).0 a.2; right = a.1 }
@@ -36,7 +36,7 @@ shares_in spec i k s = any_in (is_in (columns_of spec i)) (columns_of spec k) s.
 shares_back : (spec : Spec) (i k : ℕ) → shares_attribute spec i k ≡ true → shares_attribute spec k i ≡ true
 shares_back spec i k e = let s = shares_from spec i k e in shares_in spec k i (record { name = s.name; left = s.right; right = s.left })
 
-touches_from : (spec : Spec) (taken : List ℕ) (k : ℕ) → touches spec taken k ≡ true → (i : ℕ) × Contains taken i × (shares_attribute spec i k ≡ true)
+pub touches_from : (spec : Spec) (taken : List ℕ) (k : ℕ) → touches spec taken k ≡ true → (i : ℕ) × Contains taken i × (shares_attribute spec i k ≡ true)
 touches_from spec taken k e = any_from (λ i. shares_attribute spec i k) taken e
 
 touches_in : (spec : Spec) (taken : List ℕ) (i k : ℕ) → Contains taken i → shares_attribute spec i k ≡ true → touches spec taken k ≡ true
