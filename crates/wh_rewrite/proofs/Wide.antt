@@ -8,13 +8,13 @@ use Rattle.wh_base.specs.declared.value.Value.{Value}
 use Rattle.wh_base.specs.Columns.{names_of}
 use Rattle.wh_base.specs.Heads.{columns_at}
 use Rattle.wh_base.specs.RowSet.{has}
-use Rattle.wh_base.specs.Tables.{Table, select, join_all}
+use Rattle.wh_base.specs.Tables.{select, join_all}
 use Rattle.wh_schema.specs.declared.spec.Spec.{Spec}
 use Rattle.wh_schema.specs.Heads.{complement_head, heads_of, relation_head, typed_names, view_head}
 use Rattle.wh_schema.specs.Legality.{IsState}
 use Rattle.wh_schema.specs.Warehouse.{State, columns_of, no_relation, no_view, table_of, view_at, view_table}
 use Rattle.wh_laws.proofs.Equality.{has_decides}
-use Rattle.wh_rewrite.specs.States.{StatesAreWide, is_source, state_rows}
+use Rattle.wh_rewrite.specs.States.{StatesAreWide, is_source}
 use Rattle.wh_rewrite.proofs.NodeLemmas.{wide_map}
 
 columns_after : (xs ys : List Head) (k j : ℕ) → k ≡ length xs + j → columns_at (xs ++ ys) k ≡ columns_at ys j

@@ -23,9 +23,17 @@ abbrev pub is_side : List (List ℕ) → Bool → Cond → Bool
 is_side columns true c = is_within columns c
 is_side columns false c = not (is_within columns c)
 
--- the conjuncts that have not all their attributes on one side
+-- the conjuncts of a condition that have all their attributes in an expression
+abbrev pub conjuncts_within : List Head → Expr → Cond → List Cond
+conjuncts_within heads e c = filter (is_within (columns_of heads e)) (conjuncts c)
+
+-- the parts that have all their attributes neither among the left columns nor among the right ones
 abbrev pub beyond : List (List ℕ) → List (List ℕ) → List Cond → List Cond
 beyond left right parts = filter (λ part. not (is_within right part)) (filter (λ part. not (is_within left part)) parts)
+
+-- the conjuncts of a condition that have not all their attributes on one side of a join
+abbrev pub conjuncts_beyond : List Head → Expr → Expr → Cond → List Cond
+conjuncts_beyond heads left right c = beyond (columns_of heads left) (columns_of heads right) (conjuncts c)
 
 -- whether no conjunct has all its attributes on one side of a join
 abbrev pub needs_both : List (List ℕ) → List (List ℕ) → Cond → Bool

@@ -99,7 +99,8 @@ fn with_chosen(
     within: bool,
 ) -> Result<Cond, NoMemory>
     requires { conjuncts part.now ≡ part.now ∷ [] }
-    ensures { IfOk result (λ s. conjuncts s ≡ conjuncts first ++ filter (is_side columns.now within) (conjuncts part.now)) }
+    ensures { IfOk result (λ s. conjuncts s
+        ≡ conjuncts first ++ filter (is_side columns.now within) (conjuncts part.now)) }
 {
     if is_side(columns, part, within) {
         with_part(alloc, first, part.copy(alloc)?)
@@ -116,7 +117,8 @@ fn with_side(
     columns: &Names,
     within: bool,
 ) -> Result<Cond, NoMemory>
-    ensures { IfOk result (λ s. conjuncts s ≡ conjuncts first ++ filter (is_side columns.now within) (conjuncts c.now)) }
+    ensures { IfOk result (λ s. conjuncts s
+        ≡ conjuncts first ++ filter (is_side columns.now within) (conjuncts c.now)) }
 {
     match c {
         Cond::Always => Ok(first),

@@ -56,7 +56,8 @@ pub(crate) fn over_join(
     right: Result<Expr, NoMemory>,
     wanted: &Wanted,
 ) -> Result<Expr, NoMemory>
-    ensures { IfOk result (λ e. OfBoth left right (λ x y. e ≡ projection wanted.now (selection rest (expr.Join x y)))) }
+    ensures { IfOk result (λ e. OfBoth left right (λ x y. e
+        ≡ projection wanted.now (selection rest (expr.Join x y)))) }
 {
     let left = boxed(alloc, left?)?;
     let joined = Expr::Join(left, boxed(alloc, right?)?);

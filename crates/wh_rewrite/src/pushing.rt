@@ -1,6 +1,6 @@
-ghost use Rattle.std.specs.Prelude.{◌≡◌, filter, IfOk};
+ghost use Rattle.std.specs.Prelude.{◌≡◌, IfOk};
 ghost use Rattle.wh_rewrite.specs.Conjuncts.{conjuncts, cond_over, old_name};
-ghost use Rattle.wh_rewrite.specs.Pushed.{beyond, columns_of, is_within};
+ghost use Rattle.wh_rewrite.specs.Pushed.{columns_of, conjuncts_beyond, conjuncts_within};
 ghost use Rattle.wh_rewrite.specs.Rewritten.{IsAsked, IsRewritten};
 
 use crate::conditions::{met, part_beyond, part_within, with_old_names};
@@ -26,9 +26,10 @@ fn join_parts(
     left: &Expr,
     right: &Expr,
 ) -> Result<JoinParts, NoMemory>
-    ensures left { IfOk result (λ p. conjuncts p.left ≡ filter (is_within (columns_of heads.now left.now)) (conjuncts cond.now)) }
-    ensures right { IfOk result (λ p. conjuncts p.right ≡ filter (is_within (columns_of heads.now right.now)) (conjuncts cond.now)) }
-    ensures rest { IfOk result (λ p. conjuncts p.rest ≡ beyond (columns_of heads.now left.now) (columns_of heads.now right.now) (conjuncts cond.now)) }
+    ensures left { IfOk result (λ p. conjuncts p.left ≡ conjuncts_within heads.now left.now cond.now) }
+    ensures right { IfOk result (λ p. conjuncts p.right ≡ conjuncts_within heads.now right.now cond.now) }
+    ensures rest { IfOk result
+        (λ p. conjuncts p.rest ≡ conjuncts_beyond heads.now left.now right.now cond.now) }
 {
     let left_columns = columns_of(alloc, heads, left)?;
     let right_columns = columns_of(alloc, heads, right)?;
