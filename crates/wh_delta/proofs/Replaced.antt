@@ -1,14 +1,12 @@
 -- A view's rows, from the join of one member's rows with the others of a base.
-use Rattle.std.proofs.Common.{◌≡◌, ◌≢◌, ◌↔◌, ◌⊎◌, ℕ, zero, suc, ◌<◌, Bool, true, false, not, nat_eq, List, [], ◌∷◌, ◌++◌, map, filter, fold, take, get_or, set, length, Contains, IsTrue, refl, sym, ◌∙◌, ap, subst, inl, inr, arith, append_assoc, le_of_suc-le-suc, not-suc-le-zero}
+use Rattle.std.proofs.Common.{◌≡◌, ◌↔◌, ℕ, zero, suc, ◌<◌, Bool, true, false, not, nat_eq, List, [], ◌∷◌, ◌++◌, map, filter, take, get_or, set, length, Contains, IsTrue, refl, sym, ◌∙◌, ap, subst, inl, inr, append_assoc, le_of_suc-le-suc, not-suc-le-zero}
 use Rattle.std.specs.List.{IsDistinct}
 use Rattle.std.proofs.lemmas.Bool.{true≢false, and_from, cases_eq, eqb-true, eq-eqb, not-true}
 use Rattle.std.proofs.lemmas.List.Elements.{Contains-get_or}
 use Rattle.std.proofs.lemmas.List.{append-nil, get_or-set_same, get_or-set_other}
 use Rattle.std.proofs.lemmas.List.Elements.{All-contains, All-from_recursion}
 use Rattle.std.proofs.lemmas.Map.Keys.{IsDistinct-head, IsDistinct-tail}
-use Rattle.wh_base.specs.declared.cond.Cond.{Cond}
 use Rattle.wh_base.specs.declared.head.Head.{Head}
-use Rattle.wh_base.specs.declared.value.Value.{Value}
 use Rattle.wh_base.specs.Columns.{name_eq, is_in}
 use Rattle.wh_base.specs.Heads.{columns_at}
 use Rattle.wh_base.specs.RowSet.{has, SameRows}
@@ -19,14 +17,14 @@ use Rattle.wh_expr.specs.Typing.{are_distinct}
 use Rattle.wh_expr.proofs.Congruence.{same_trans, SameTable-join, SameTable-select, SameTable-project}
 use Rattle.wh_schema.specs.declared.spec.Spec.{Spec}
 use Rattle.wh_schema.specs.declared.spec.View.{View}
-use Rattle.wh_schema.specs.Legality.{WellFormed, IsState}
-use Rattle.wh_schema.specs.Warehouse.{Row, State, columns_of, view_at, table_of, view_table}
+use Rattle.wh_schema.specs.Legality.{WellFormed}
+use Rattle.wh_schema.specs.Warehouse.{Row, State, columns_of, table_of, view_table}
 use Rattle.wh_laws.proofs.Lists.{Contains-nil, Contains-here, Contains-there, Contains-cases, Contains-is, filter_in, filter_from, map_in}
 use Rattle.wh_laws.proofs.Equality.{Name, name_eq_decides, is_in_decides, when_false, is_not_in, shared_in}
 use Rattle.wh_laws.proofs.Joins.{column_in}
 use Rattle.wh_delta_laws.specs.Connected.{touches, GoesOutward, IsOrderFrom, IsConnected}
 use Rattle.wh_delta_laws.specs.Laws.{AreAmong}
-use Rattle.wh_delta_laws.proofs.Connected.{Shares, shares_from, touches_from}
+use Rattle.wh_delta_laws.proofs.Connected.{shares_from, touches_from}
 use Rattle.wh_delta_laws.proofs.Deltas.{among_from, fewer_state}
 use Rattle.wh_delta_laws.proofs.Grouping.{any_order}
 use Rattle.wh_delta.specs.Candidates.{AreLater, HasMembers, MembersStand}

@@ -98,6 +98,9 @@ fn has_items<L: Ledger>(alloc: Global, steps: &mut Steps<L>) -> Result<bool, NoM
 #[test]
 fn sales_are_looked_up(rt: HostRuntime) -> Result<(), Fail> {
     let mut steps = Steps::new(&rt, CountLedger::new());
-    assert_eq!(rt; has_items(rt.alloc(), &mut steps)? && steps.ledger().scans == 0, true);
+    assert_eq!(rt;
+        has_items(rt.alloc(), &mut steps)? && steps.ledger().scans == 0,
+        true
+    );
     Ok(())
 }

@@ -29,12 +29,7 @@ fn other_numbers(alloc: Global, numbers: &[u32], number: u32) -> Result<Places, 
 }
 
 /// The members of a view other than this one, in the order in which they are joined to it.
-fn later_members(
-    alloc: Global,
-    spec: &Spec,
-    view: &View,
-    member: u32,
-) -> Result<Places, NoMemory>
+fn later_members(alloc: Global, spec: &Spec, view: &View, member: u32) -> Result<Places, NoMemory>
     requires { Contains view.now.relations member }
     ensures { IfOk result (λ later. AreLater spec.now view.now member later) }
 {
