@@ -20,10 +20,10 @@ same() {
     fi
 }
 
-# The status, standard output and standard error of a run, which is stopped after a minute, one after another.
+# The status, standard output and standard error of a run, which is stopped after five minutes, one after another.
 run() {
     local status=0
-    timeout 60 "$whc" "$@" >"$dir/out" 2>"$dir/err" || status=$?
+    timeout 300 "$whc" "$@" >"$dir/out" 2>"$dir/err" || status=$?
     printf 'status %s\n' "$status"
     cat "$dir/out" "$dir/err"
 }
@@ -100,7 +100,7 @@ rm -rf "$dir/zeros"
 # Interrupted calls are made again.
 if strace -o /dev/null true 2>/dev/null; then
     same "an interrupted read" "$(printf '/dev/stdin: refresh 3, sources -0 +0, stored -0 +0')" \
-        "$(strace -o /dev/null -e trace=read -e inject=read:error=EINTR:when=1..2 -P $sales/changes/monday.csv "$whc" "$dir/closed" refresh /dev/stdin <$sales/changes/monday.csv)"
+        "$(strace -o /dev/null -e trace=read -e inject=read:error=EINTR:when=1..2 -P "$PWD/$sales/changes/monday.csv" "$whc" "$dir/closed" refresh /dev/stdin <$sales/changes/monday.csv)"
     same "an interrupted write" "$("$whc" "$dir/closed" dump Emp)" "$(strace -o /dev/null -e trace=write -e inject=write:error=EINTR:when=1..2 "$whc" "$dir/closed" dump Emp)"
 else
     echo "checks: there is no strace here, so no call is interrupted"
