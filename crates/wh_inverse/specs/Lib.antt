@@ -1,4 +1,5 @@
 pub mod Asked
+pub mod ByKey
 pub mod Filled
 pub mod Inverse
 pub mod Laws

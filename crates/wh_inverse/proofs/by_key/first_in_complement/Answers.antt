@@ -1,4 +1,4 @@
-use Rattle.std.proofs.Common.{◌≡◌, true, [], get_or, length, ap, rules, arith}
+use Rattle.std.proofs.Common.{◌≡◌, true, [], get_or, length, ap, ◌∙◌, rules, arith}
 use Rattle.std.proofs.lemmas.Result.{IfOk-weaker}
 use Rattle.wh_base.specs.Heads.{columns_at}
 use Rattle.wh_base.specs.Tables.{matching}
@@ -9,7 +9,7 @@ use Rattle.wh_schema.specs.Reconstruction.{reconstructed}
 use Rattle.wh_schema.specs.Warehouse.{columns_of, key_of}
 use Rattle.wh_inverse.specs.Inverse.{stored_below}
 use Rattle.wh_inverse.proofs.BelowLemmas.{below-held}
-use Rattle.wh_inverse.proofs.FirstByKey.{found_so, key_asked, key_filled, complement_indexed, complement_gives}
+use Rattle.wh_inverse.proofs.FirstByKey.{found_so, missed_so, key_asked, key_filled, complement_indexed, complement_gives, stored_with_key}
 use Rattle.wh_inverse.proofs.by_key.first_in_complement.Goals as goal
 
 pub first_where-requires-clause-held : goal.first_where-requires-clause-held
@@ -56,3 +56,13 @@ returns-clause-row g c =
     (matching (columns_of spec c.args.rel) (key_of spec c.args.rel) c.args.key.now (get_or (reconstructed spec (stored_below spec rows)) c.args.rel []))
     h (complement_gives spec b.heads.now (is_stored b.heads.now b.tables.now) s.over c.args.rel c.requires.relation n c.complement_number-number.ensures rows key (ap (λ (r : Relation). r.key) c.relation_at-relation.ensures) c.args.key.now))
     c.first_where.ensures.row
+
+pub returns-clause-missed : goal.returns-clause-missed
+returns-clause-missed g c =
+    let s = c.args.inverse.now in
+    let b = s.below.now in
+    let rows = stored_rows b.heads.now b.tables.now in
+    let n = c.complement_number-number.result in
+    let key = c.relation_at-relation.result.now.key in
+    let is = stored_with_key s.plan.now.spec b.heads.now (is_stored b.heads.now b.tables.now) s.over c.args.rel c.requires.relation n c.complement_number-number.ensures rows key (ap (λ (r : Relation). r.key) c.relation_at-relation.ensures) c.args.key.now in
+    IfOk-weaker c.first_where.result _ _ (λ found h plain none. is ∙ missed_so _ found (matching (columns_at b.heads.now n) key c.args.key.now (rows n)) h none) c.first_where.ensures.row
