@@ -20,13 +20,13 @@ fn disk_of(alloc: Global, content: &[u8], fails: Numbers) -> Result<MemDisk, NoM
 // The numbers of the calls from one on up to the seventh.
 fn from_call(alloc: Global, first: u64) -> Result<Numbers, NoMemory> {
     let mut fails = Numbers::new(alloc);
-    for call in first..8 {
+    for call in first..9 {
         fails.push(call)?;
     }
     Ok(fails)
 }
 
-// Appends the change. The recovery before it makes three calls of the disk, and the append four.
+// Appends the change. The recovery before it makes four calls of the disk, and so does the append.
 fn append_change(alloc: Global, disk: &mut MemDisk) -> Result<Option<Journal>, JournalFault> {
     let Found::Frames {
         bodies: _bodies,
@@ -108,10 +108,19 @@ fn frames_are_appended_and_found(rt: HostRuntime) -> Result<(), Fail> {
 #[test]
 fn a_crash_leaves_a_frame_whole_or_out(rt: HostRuntime) -> Result<(), Fail> {
     let alloc = rt.alloc();
-    for (first, bodies) in [(4, 1), (5, 1), (6, 2), (7, 2)] {
+    for (first, bodies) in [(4, 1), (5, 1), (6, 1), (7, 2), (8, 2)] {
         let mut disk = disk_of(alloc, FILE, from_call(alloc, first)?)?;
         assert!(rt; append_change(alloc, &mut disk).is_err());
         assert_eq!(rt; bodies_after_crash(alloc, &disk).ok(), Some(bodies));
     }
+    Ok(())
+}
+
+#[test]
+fn no_more_than_the_first_byte_of_an_empty_file_is_read(rt: HostRuntime) -> Result<(), Fail> {
+    let alloc = rt.alloc();
+    let mut disk = disk_of(alloc, &[0; 64], Numbers::new(alloc))?;
+    assert!(rt; matches!(recover(alloc, &mut disk), Ok(Found::Empty)));
+    assert_eq!(rt; disk.bytes_read(), 1);
     Ok(())
 }

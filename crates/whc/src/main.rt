@@ -3,6 +3,8 @@
 
 #[cfg(test)]
 mod audit_tests;
+#[cfg(test)]
+mod crash_tests;
 mod laws;
 #[cfg(test)]
 mod make_tests;

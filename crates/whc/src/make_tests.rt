@@ -231,12 +231,12 @@ fn survives(alloc: Global, counts: &mut Steps<NoLedger>, fails: &[u64]) -> Resul
     survives_on(alloc, counts, &mut store)
 }
 
-// The numbers of the calls of the first disk: eleven of the load, three to open it, four for each of nine changes, and three
+// The numbers of the calls of the first disk: eleven of the load, four to open it, four for each of nine changes, and four
 // to open it for the report.
 const CALLS: &[u64] = &[
     1, 2, 3, 4, 5, 6, 7, 8, 9, 10, 11, 12, 13, 14, 15, 16, 17, 18, 19, 20, 21, 22, 23, 24, 25, 26,
     27, 28, 29, 30, 31, 32, 33, 34, 35, 36, 37, 38, 39, 40, 41, 42, 43, 44, 45, 46, 47, 48, 49, 50,
-    51, 52, 53,
+    51, 52, 53, 54, 55,
 ];
 
 fn survives_each(alloc: Global, counts: &mut Steps<NoLedger>) -> Result<bool, NoMemory> {

@@ -1,7 +1,7 @@
 // One failing call of each device, at each number, in a run of three change files of which the second is refused.
+use crate::crash_tests::{CALLS, is_whole};
 use crate::refresh_tests::{
-    AT_FIRST, CALLS, EMPLOYEES, HELD_B, LOADED, SALES, SOLD_BY_ZOE, THREE, WITH_ZOE, is_reached,
-    is_whole,
+    AT_FIRST, EMPLOYEES, HELD_B, LOADED, SALES, SOLD_BY_ZOE, THREE, WITH_ZOE, is_reached,
 };
 use crate::runs::{End, Store, ends, show};
 use crate::store_tests::{Fails, LOAD_B, NONE, Row, Story, are_told, empty_store};

@@ -1,8 +1,6 @@
 // Change files over a store, over devices in memory.
 use crate::runs::{End, Held, Store, ends, show};
-use crate::store_tests::{
-    CRASHES, Fails, LOAD_B, LOADED_B, NONE, Row, Story, are_told, crashed, rows_end, store_of,
-};
+use crate::store_tests::{Fails, LOAD_B, LOADED_B, NONE, Row, Story, are_told};
 use crate::tests::{EMP, SALE, SPEC_B, USAGE};
 use std::alloc::Global;
 use std::test::Fail;
@@ -490,7 +488,7 @@ const FRAMES: &[Story<'static>] = &[
         rows: &[Row(FIVE, NONE, TOOK_FIVE), Row(DUMP_R, NONE, ROW_FIVE)],
         left: &[(b"\x00", FILE_R5)],
     },
-    // The disk's calls: a sync, a length and a read to open it, then the frame and its sync, then the mark and its sync.
+    // The disk's calls: a sync, a length and two reads to open it, then the frame and its sync, then the mark and its sync.
     // The frame of a change that failed stands behind the closed mark, and is cut off by the next one.
     Story {
         first: FILE_R,
@@ -507,7 +505,7 @@ const FRAMES: &[Story<'static>] = &[
     Story {
         first: FILE_R,
         second: b"",
-        disk_fails: &[5],
+        disk_fails: &[6],
         held: HELD_R,
         rows: &[
             Row(FIVE, NONE, DISK_FAULT),
@@ -519,7 +517,7 @@ const FRAMES: &[Story<'static>] = &[
     Story {
         first: FILE_R,
         second: b"",
-        disk_fails: &[7],
+        disk_fails: &[8],
         held: HELD_R,
         rows: &[Row(FIVE, NONE, DISK_FAULT), Row(DUMP_R, NONE, ROW_FIVE)],
         left: &[(FILE_R5, b"")],
@@ -710,97 +708,4 @@ pub(crate) fn is_reached(
         }
     }
     Ok(false)
-}
-
-const LOADED_ALONE: &[Row<'static>] = &[LOADED];
-
-// A loaded store whose first disk fails from a call on.
-fn failing<'a>(fails: &'a [u64]) -> Story<'a> {
-    Story {
-        first: b"",
-        second: b"",
-        disk_fails: fails,
-        held: HELD_B,
-        rows: LOADED_ALONE,
-        left: &[],
-    }
-}
-
-// Whether a run of three change files comes to its end over a store.
-pub(crate) fn is_whole(
-    alloc: Global,
-    counts: &mut Steps<NoLedger>,
-    store: &mut Store,
-) -> Result<bool, NoMemory> {
-    ends(alloc, counts, store, &show(THREE, HELD_B), &TOOK_TWO)
-}
-
-fn is_reached_after_crash(
-    alloc: Global,
-    counts: &mut Steps<NoLedger>,
-    store: &Store,
-    fill: u8,
-    torn: bool,
-) -> Result<bool, NoMemory> {
-    let mut left = crashed(alloc, store, fill, torn)?;
-    is_reached(alloc, counts, &mut left)
-}
-
-// Whether the run fails on the store of a story, and what a crash leaves is reached.
-fn survives_on(
-    alloc: Global,
-    counts: &mut Steps<NoLedger>,
-    store: &mut Store,
-    story: &Story<'_>,
-    fill: u8,
-    torn: bool,
-) -> Result<bool, NoMemory> {
-    Ok(
-        rows_end(alloc, counts, store, story)?
-            && !is_whole(alloc, counts, store)?
-            && is_reached_after_crash(alloc, counts, store, fill, torn)?,
-    )
-}
-
-fn survives(
-    alloc: Global,
-    counts: &mut Steps<NoLedger>,
-    story: &Story<'_>,
-    fill: u8,
-    torn: bool,
-) -> Result<bool, NoMemory> {
-    let mut store = store_of(alloc, story)?;
-    survives_on(alloc, counts, &mut store, story, fill, torn)
-}
-
-// The numbers of the calls of the first disk behind those of the load: three to open it, and four for each change.
-pub(crate) const CALLS: &[u64] = &[12, 13, 14, 15, 16, 17, 18, 19, 20, 21, 22];
-
-fn survives_all(
-    alloc: Global,
-    counts: &mut Steps<NoLedger>,
-    story: &Story<'_>,
-) -> Result<bool, NoMemory> {
-    for (fill, torn) in CRASHES {
-        if !survives(alloc, counts, story, *fill, *torn)? {
-            return Ok(false);
-        }
-    }
-    Ok(true)
-}
-
-fn survives_each(alloc: Global, counts: &mut Steps<NoLedger>) -> Result<bool, NoMemory> {
-    for passed in 0..CALLS.len() {
-        if !survives_all(alloc, counts, &failing(&CALLS[passed..]))? {
-            return Ok(false);
-        }
-    }
-    Ok(true)
-}
-
-#[test]
-fn a_crash_leaves_the_first_changes(rt: HostRuntime) -> Result<(), Fail> {
-    let mut counts = Steps::new(&rt, NoLedger);
-    assert!(rt; survives_each(rt.alloc(), &mut counts)?);
-    Ok(())
 }
