@@ -350,14 +350,24 @@ fn looked_up<L: Ledger>(alloc: Global, steps: &mut Steps<L>) -> Result<Option<Fo
     }
 }
 
-// Whether rows were found twice, by the base and by an expression.
+// Whether rows are these, each as often as here, in whatever order they were found.
+fn are_sorted_to(found: Rows, told: &Rows) -> Result<bool, NoMemory> {
+    let mut items = found.into_vec();
+    items.sort()?;
+    Ok(Rows::from_vec(items) == *told)
+}
+
+// Whether rows were found twice, by the base and by an expression. The listed ones ascend.
 fn are_rows(
     alloc: Global,
     found: Option<(Rows, Rows)>,
     listed: &[Listed<'_>],
 ) -> Result<bool, NoMemory> {
     let told = rows(alloc, listed)?;
-    Ok(found.is_some_and(|(at, bound)| at == told && bound == told))
+    match found {
+        Some((at, bound)) => Ok(are_sorted_to(at, &told)? && are_sorted_to(bound, &told)?),
+        None => Ok(false),
+    }
 }
 
 fn is_row(
