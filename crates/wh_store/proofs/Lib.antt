@@ -10,6 +10,7 @@ mod HeldTables
 pub mod HeldValues
 pub mod Loaded
 pub mod OpenLemmas
+pub mod Searches
 pub mod SoundFiles
 pub mod SpelledTables
 pub mod StoredLemmas
