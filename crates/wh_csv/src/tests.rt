@@ -78,6 +78,7 @@ fn changed(alloc: Global, bytes: &[u8]) -> Result<Result<usize, CsvFault>, Fail>
     let spec = Spec {
         relations,
         inclusions: Sequence::new(alloc),
+        checks: Sequence::new(alloc),
         views: Sequence::new(alloc),
     };
     Ok(match read_change(alloc, bytes, &spec) {
