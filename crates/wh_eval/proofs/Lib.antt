@@ -1,3 +1,4 @@
+mod AskedLemmas
 mod CutLemmas
 mod EvaluateLemmas
 mod PartnerLemmas
