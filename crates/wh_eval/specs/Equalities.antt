@@ -1,5 +1,5 @@
 -- Conditions that demand a value of a column.
-use Rattle.std.specs.Prelude.{ℕ, Bool, List, [], ◌∷◌, Option, None, Some, if◌then◌else◌}
+use Rattle.std.specs.Prelude.{ℕ, List, [], ◌∷◌, Option, None, Some, if◌then◌else◌}
 use Rattle.wh_base.specs.declared.cond.Cond.{Cond, fold-Cond}
 use Rattle.wh_base.specs.declared.cond.Cond.TheOpen.{Cond-F}
 use Rattle.wh_base.specs.declared.cond.Op.{Op}
