@@ -6,7 +6,6 @@ use Rattle.wh_base.specs.declared.cond.Op.{Op}
 use Rattle.wh_base.specs.declared.cond.Op.TheVariants.{Eq, Ne, Lt, Le, Gt, Ge}
 use Rattle.wh_base.specs.declared.cond.Operand.{Operand}
 use Rattle.wh_base.specs.declared.cond.Operand.TheVariants as operand
-use Rattle.wh_base.specs.declared.value.Value.{Value}
 use Rattle.wh_base.specs.declared.value.Value.TheVariants as value
 use Rattle.wh_base.specs.Columns.{is_in}
 use Rattle.wh_eval.specs.declared.equality.Equality.{Equality}
