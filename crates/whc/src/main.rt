@@ -3,7 +3,6 @@
 
 #[cfg(test)]
 mod audit_tests;
-mod laws;
 #[cfg(test)]
 mod make_tests;
 #[cfg(test)]
