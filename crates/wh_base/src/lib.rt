@@ -32,6 +32,3 @@ pub use value::{
     Attr, Attrs, Bytes, ColumnSets, Delta, Flags, Kind, Name, Names, Numbers, Places, Row, Rows,
     SourceDeltas, State, StoredDeltas, StoredRows, Texts, Value, row_cmp,
 };
-
-#[cfg(test)]
-mod tests;

@@ -1,4 +1,4 @@
-//! Tests of the crates that read and write texts, in one of their own: a crate that has tests is proved once more with them.
+//! Tests of the crates that read and write values and texts, in one of their own: a crate that has tests is proved once more with them.
 #![tactic(auto)]
 
 #[cfg(test)]
@@ -13,3 +13,5 @@ mod pieces;
 mod query_tests;
 #[cfg(test)]
 mod spec_tests;
+#[cfg(test)]
+mod value_tests;
