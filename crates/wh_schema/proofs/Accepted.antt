@@ -6,7 +6,7 @@ use Rattle.wh_schema.specs.declared.fault.SpecCause.{SpecCause}
 use Rattle.wh_schema.specs.declared.raw.RawStatement.{RawStatement}
 use Rattle.wh_schema.specs.declared.raw.RawStatement.TheVariants as statement
 use Rattle.wh_schema.specs.declared.spec.Spec.{Spec}
-use Rattle.wh_schema.specs.Rules.{broken_if, first_cause, rule_faults, added, located, and_then, next, checked_from, checked, IsWithinLimits, size, relation_of, inclusion_of, view_of, attrs_of, too_many_inclusions, inclusion_words, unknown_side, inclusion_name_faults, bad_inclusion, cyclic, too_many_relations, too_many_views, too_long_name, reserved_name, taken_name, relation_words, view_words, relation_name_faults, view_name_faults, attribute_faults, member_faults, shape_faults, member_attrs}
+use Rattle.wh_schema.specs.Rules.{broken_if, first_cause, rule_faults, added, located, and_then, next, checked_from, checked, IsWithinLimits, size, relation_of, inclusion_of, check_of, view_of, attrs_of, too_many_checks, check_words, repeated_check, unknown_checked, check_name_faults, check_shape_faults, too_many_inclusions, inclusion_words, unknown_side, inclusion_name_faults, bad_inclusion, cyclic, too_many_relations, too_many_views, too_long_name, reserved_name, taken_name, relation_words, view_words, relation_name_faults, view_name_faults, attribute_faults, member_faults, shape_faults, member_attrs}
 
 -- of two lists that are empty together each is empty
 pub no_left : (xs ys : List SpecCause) → xs ++ ys ≡ [] → xs ≡ []
@@ -40,19 +40,25 @@ added_within spec (statement.Relation r) e within =
     let first = no_left (too_many_relations spec) (too_long_name (relation_words r)) (no_left _ (reserved_name r.name) (no_left _ (taken_name spec r.name) names)) in
     let room : length spec.relations < 64 = not_full (length spec.relations) 64 _ first in
     let more = length_push spec.relations (relation_of r) in
-    (record { relations = omega arith; inclusions = within.inclusions; views = within.views }, omega arith)
+    (record { relations = omega arith; inclusions = within.inclusions; checks = within.checks; views = within.views }, omega arith)
 added_within spec (statement.Inclusion c) e within =
     let names = no_left (inclusion_name_faults spec c) (bad_inclusion (attrs_of spec c.from) (attrs_of spec c.to) c) (no_left _ (cyclic spec c) e) in
     let first = no_left (too_many_inclusions spec) (too_long_name (inclusion_words c)) (no_left _ (unknown_side spec c) names) in
     let room : length spec.inclusions < 128 = not_full (length spec.inclusions) 128 _ first in
     let more = length_push spec.inclusions (inclusion_of spec c) in
-    (record { relations = within.relations; inclusions = omega arith; views = within.views }, omega arith)
+    (record { relations = within.relations; inclusions = omega arith; checks = within.checks; views = within.views }, omega arith)
+added_within spec (statement.Check c) e within =
+    let names = no_left (check_name_faults spec c) (check_shape_faults (attrs_of spec c.relation) c) e in
+    let first = no_left (too_many_checks spec) (too_long_name (check_words c)) (no_left _ (repeated_check spec c) (no_left _ (unknown_checked spec c) names)) in
+    let room : length spec.checks < 64 = not_full (length spec.checks) 64 _ first in
+    let more = length_push spec.checks (check_of spec c) in
+    (record { relations = within.relations; inclusions = within.inclusions; checks = omega arith; views = within.views }, omega arith)
 added_within spec (statement.View v) e within =
     let names = no_left (view_name_faults spec v) (member_faults spec v) (no_left _ (shape_faults (member_attrs spec v) v) e) in
     let first = no_left (too_many_views spec) (too_long_name (view_words v)) (no_left _ (reserved_name v.name) (no_left _ (taken_name spec v.name) names)) in
     let room : length spec.views < 64 = not_full (length spec.views) 64 _ first in
     let more = length_push spec.views (view_of spec v) in
-    (record { relations = within.relations; inclusions = within.inclusions; views = omega arith }, omega arith)
+    (record { relations = within.relations; inclusions = within.inclusions; checks = within.checks; views = omega arith }, omega arith)
 
 pub next_within : (spec t : Spec) (n : ℕ) (s : RawStatement) → next spec n s ≡ Ok t → IsWithinLimits spec → IsWithinLimits t × (size t ≡ size spec + 1)
 next_within spec t n s e within =

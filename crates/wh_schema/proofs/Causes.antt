@@ -14,6 +14,11 @@ pub located_left : (n : ℕ) (xs ys : List SpecCause) (f : SpecFault) → locate
 located_left n [] ys f e = cc
 located_left n (x ∷ xs) ys f e = e
 
+-- where it is none, the list is empty
+pub located_none : (n : ℕ) (xs : List SpecCause) → located n (first_cause xs) ≡ Ok tt → xs ≡ []
+located_none n [] e = refl
+located_none n (x ∷ xs) e = cc
+
 -- a call may answer the outcome itself
 Gives_same : {T : Type 0} (r : Result T SpecFault) → Gives r r
 Gives_same (Ok x) = refl

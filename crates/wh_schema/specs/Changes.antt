@@ -3,9 +3,11 @@ use Rattle.std.specs.Prelude.{◌≡◌, ◌⊎◌, ℕ, ◌<◌, Bool, cond, no
 use Rattle.wh_base.specs.Columns.{cut}
 use Rattle.wh_base.specs.RowSet.{has}
 use Rattle.wh_base.specs.Value.{row_eq}
+use Rattle.wh_schema.specs.declared.constraint.Constraint.{Constraint}
+use Rattle.wh_schema.specs.declared.constraint.Constraint.TheVariants as constraint
 use Rattle.wh_schema.specs.declared.spec.Inclusion.{Inclusion}
 use Rattle.wh_schema.specs.declared.spec.Spec.{Spec}
-use Rattle.wh_schema.specs.Warehouse.{Row, State, key_of, key_value, left_value, view_at, view_table}
+use Rattle.wh_schema.specs.Warehouse.{Row, State, inclusion_at, check_at, key_of, key_value, left_value, right_value, view_at, view_table}
 
 -- a row to insert into a relation, or to delete from it
 pub record Line : Type 0 where
@@ -26,6 +28,16 @@ apply s lines = fold apply_line s lines
 -- the row left the list, or entered it
 abbrev pub Changed : List Row → List Row → Row → Type 0
 Changed before after x = ((has before x ≡ true) × (has after x ≡ false)) ⊎ ((has before x ≡ false) × (has after x ≡ true))
+
+-- a row that left or entered a relation has the value
+abbrev pub IsCarriedBy : State → State → ℕ → (Row → Row) → Row → Type 0
+IsCarriedBy s t i value v = (x : Row) × Changed (get_or s i []) (get_or t i []) x × (value x ≡ v)
+
+-- the value is one at which a constraint looks, of a row that left or entered one of its relations
+abbrev pub IsCarried : Spec → State → State → Constraint → Row → Type 0
+IsCarried spec s t (constraint.Key i) v = IsCarriedBy s t i (key_value spec i) v
+IsCarried spec s t (constraint.Inclusion k) v = let c = inclusion_at spec k in IsCarriedBy s t c.from (left_value spec c) v ⊎ IsCarriedBy s t c.to (right_value spec c) v
+IsCarried spec s t (constraint.Check k) v = let c = check_at spec k in IsCarriedBy s t c.relation (key_value spec c.relation) v
 
 -- No row with the key value k left or entered the relation r, a usable view of r, or the left relation of a usable inclusion into r.
 pub record KeyIsQuiet (spec : Spec) (r : ℕ) (s t : State) (k : Row) : Type 0 where

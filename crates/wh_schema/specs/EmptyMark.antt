@@ -1,10 +1,16 @@
--- Relations whose complement is empty in every legal state: a view without a condition keeps all their attributes, and each other
--- relation of the view is joined along an inclusion that leads into it, so that no row of theirs lacks a partner.
-use Rattle.std.specs.Prelude.{ℕ, nat_eq, List, [], ◌∷◌, Bool, true, false, not, ◌&&◌, length}
+-- Relations whose complement is empty in every legal state: a view, whose condition asks for no more than checks do, keeps all their
+-- attributes, and each other relation of the view is joined along an inclusion that leads into it, so that no row of theirs lacks a partner.
+use Rattle.std.specs.Prelude.{ℕ, nat_eq, List, [], ◌∷◌, ◌++◌, Bool, true, false, not, ◌&&◌, ◌||◌, length}
 use Rattle.std.specs.List.{flat_map, list_any, list_all}
 use Rattle.std.specs.Cmp.Lexicographic.{pointwise}
-use Rattle.wh_base.specs.declared.cond.Cond.{Cond}
-use Rattle.wh_base.specs.declared.cond.Cond.TheVariants.{Always}
+use Rattle.std.specs.Ordering.{int_eq}
+use Rattle.wh_base.specs.declared.cond.Cond.{Cond, out-Cond, fold-Cond, para-Cond}
+use Rattle.wh_base.specs.declared.cond.Cond.TheOpen.{Cond-F}
+use Rattle.wh_base.specs.declared.cond.Cond.TheVariants.{Always, Cmp, Or, Not}
+use Rattle.wh_base.specs.declared.cond.Op.{Op}
+use Rattle.wh_base.specs.declared.cond.Op.TheVariants.{Eq, Ne, Lt, Le, Gt, Ge}
+use Rattle.wh_base.specs.declared.cond.Operand.{Operand}
+use Rattle.wh_base.specs.declared.cond.Operand.TheVariants as operand
 use Rattle.wh_base.specs.Columns.{name_eq, all_in, shared}
 use Rattle.wh_schema.specs.declared.spec.Inclusion.{Inclusion}
 use Rattle.wh_schema.specs.declared.spec.Spec.{Spec}
@@ -12,9 +18,64 @@ use Rattle.wh_schema.specs.declared.spec.View.{View}
 use Rattle.wh_schema.specs.Warehouse.{columns_of}
 use Rattle.wh_schema.specs.Reconstruction.{iterate, is_taken, take_next}
 
+-- ---- conditions as trees
+
 abbrev pub is_always : Cond → Bool
 is_always Always = true
 is_always _ = false
+
+-- one operator
+abbrev pub same_op : Op → Op → Bool
+same_op Eq Eq = true
+same_op Ne Ne = true
+same_op Lt Lt = true
+same_op Le Le = true
+same_op Gt Gt = true
+same_op Ge Ge = true
+same_op _ _ = false
+
+-- one name, one integer or one text
+abbrev pub same_operand : Operand → Operand → Bool
+same_operand (operand.Attr m) (operand.Attr n) = name_eq m n
+same_operand (operand.Int x) (operand.Int y) = int_eq x y
+same_operand (operand.Text x) (operand.Text y) = name_eq x y
+same_operand _ _ = false
+
+-- one level of two trees, where the parts of the left one are tests of the right one's
+abbrev pub same_level : Cond-F (Cond → Bool) → Cond-F Cond → Bool
+same_level Cond-F.Always Cond-F.Always = true
+same_level (Cond-F.Cmp a o b) (Cond-F.Cmp c p d) = same_operand a c && same_op o p && same_operand b d
+same_level (Cond-F.And f g) (Cond-F.And c d) = f c && g d
+same_level (Cond-F.Or f g) (Cond-F.Or c d) = f c && g d
+same_level (Cond-F.Not f) (Cond-F.Not c) = f c
+same_level _ _ = false
+
+-- two conditions are one, tree for tree
+abbrev pub same_cond : Cond → Cond → Bool
+same_cond = fold-Cond (Cond → Bool) (λ level d. same_level level (out-Cond d))
+
+-- the parts of a condition that is taken apart at `and`, from those of its own parts
+abbrev pub conjuncts_at : Cond-F (Cond × List Cond) → List Cond
+conjuncts_at Cond-F.Always = Always ∷ []
+conjuncts_at (Cond-F.Cmp a o b) = Cmp a o b ∷ []
+conjuncts_at (Cond-F.And c d) = c.1 ++ d.1
+conjuncts_at (Cond-F.Or c d) = Or c.0 d.0 ∷ []
+conjuncts_at (Cond-F.Not c) = Not c.0 ∷ []
+
+abbrev pub conjuncts : Cond → List Cond
+conjuncts = para-Cond (List Cond) conjuncts_at
+
+-- ---- views that ask for no more than checks do
+
+-- the condition is the whole condition of a check on one of the relations
+abbrev pub is_checked : Spec → List ℕ → Cond → Bool
+is_checked spec members c = list_any (λ k. is_taken members k.relation && same_cond c k.cond) spec.checks
+
+-- each conjunct of the condition, other than `Always`, is that of a check on one of the view's relations
+abbrev pub is_free : Spec → View → Bool
+is_free spec v = list_all (λ c. is_always c || is_checked spec v.relations c) (conjuncts v.cond)
+
+-- ---- relations that are joined without the loss of a row
 
 -- the same names, in any order
 abbrev pub same_names : List (List ℕ) → List (List ℕ) → Bool
@@ -37,7 +98,7 @@ joined_on spec members r = iterate (length members) (take_next (is_joined_on spe
 
 -- the view loses no row of the relation in a legal state
 abbrev pub is_lossless : Spec → ℕ → View → Bool
-is_lossless spec r v = (is_always v.cond && is_taken v.relations r) && (all_in v.head (columns_of spec r) && list_all (is_taken (joined_on spec v.relations r)) v.relations)
+is_lossless spec r v = (is_free spec v && is_taken v.relations r) && (all_in v.head (columns_of spec r) && list_all (is_taken (joined_on spec v.relations r)) v.relations)
 
 -- the mark of a relation whose complement is always empty
 abbrev pub always_empty : Spec → ℕ → Bool

@@ -2,11 +2,13 @@
 use Rattle.std.specs.Prelude.{◌≡◌, ℕ, ◌<◌, List, [], length, get_or, take, true, Contains}
 use Rattle.std.specs.List.{IsDistinct}
 use Rattle.wh_base.specs.Columns.{name_eq}
+use Rattle.wh_base.specs.Cond.{IsTyped}
 use Rattle.wh_base.specs.RowSet.{has}
+use Rattle.wh_schema.specs.declared.spec.Check.{Check}
 use Rattle.wh_schema.specs.declared.spec.Inclusion.{Inclusion}
 use Rattle.wh_schema.specs.declared.spec.Spec.{Spec}
 use Rattle.wh_schema.specs.declared.spec.View.{View}
-use Rattle.wh_schema.specs.Warehouse.{Row, State, no_inclusion, columns_of, key_of}
+use Rattle.wh_schema.specs.Warehouse.{Row, State, no_inclusion, relation_at, columns_of, key_of}
 
 -- a chain of none or more of the inclusions leads from a to b
 pub data LeadsTo (inclusions : List Inclusion) : ℕ → ℕ → Type 0 where
@@ -26,18 +28,24 @@ pub record InclusionFits (spec : Spec) (c : Inclusion) : Type 0 where
   pub width : length c.from_cols ≡ length c.to_cols
   pub distinct : IsDistinct name_eq c.from_cols
 
+-- its condition is typed over the attributes of its relation
+pub record CheckFits (spec : Spec) (c : Check) : Type 0 where
+  pub relation : c.relation < length spec.relations
+  pub typed : IsTyped c.cond (relation_at spec c.relation).attrs
+
 -- it joins one relation at least, and each name of its head is an attribute of one of them
 pub record ViewFits (spec : Spec) (v : View) : Type 0 where
   pub member : (i : ℕ) × Contains v.relations i
   pub members : (i : ℕ) → Contains v.relations i → i < length spec.relations
   pub head : (n : List ℕ) → Contains v.head n → (i : ℕ) × Contains v.relations i × Contains (columns_of spec i) n
 
--- each relation has attributes, with names that differ, and a key of them; inclusions and views fit, and no inclusions form a cycle
+-- each relation has attributes, with names that differ, and a key of them; inclusions, checks and views fit, and no inclusions form a cycle
 pub record WellFormed (spec : Spec) : Type 0 where
   pub distinct : (i : ℕ) → i < length spec.relations → IsDistinct name_eq (columns_of spec i)
   pub some_attribute : (i : ℕ) → i < length spec.relations → (n : List ℕ) × Contains (columns_of spec i) n
   pub key : (i : ℕ) → i < length spec.relations → (n : List ℕ) → Contains (key_of spec i) n → Contains (columns_of spec i) n
   pub inclusions : (c : Inclusion) → Contains spec.inclusions c → InclusionFits spec c
+  pub checks : (c : Check) → Contains spec.checks c → CheckFits spec c
   pub views : (v : View) → Contains spec.views v → ViewFits spec v
   pub acyclic : IsAcyclic spec.inclusions
 

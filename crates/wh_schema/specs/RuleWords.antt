@@ -3,9 +3,9 @@ use Rattle.std.specs.Prelude.{ℕ, ◌-◌, List, [], ◌∷◌, ◌++◌, take,
 use Rattle.std.specs.List.{flat_map}
 use Rattle.wh_base.specs.Columns.{names_of}
 use Rattle.wh_schema.specs.declared.fault.LimitWord.{LimitWord}
-use Rattle.wh_schema.specs.declared.fault.LimitWord.TheVariants.{Relations, Attributes, Inclusions, Views, Members, NameBytes, Nodes}
+use Rattle.wh_schema.specs.declared.fault.LimitWord.TheVariants.{Relations, Attributes, Inclusions, Checks, Views, Members, NameBytes, Nodes}
 use Rattle.wh_schema.specs.declared.fault.SpecCause.{SpecCause}
-use Rattle.wh_schema.specs.declared.fault.SpecCause.TheVariants.{UnknownRelation, RepeatedName, ReservedName, KindClash, BadKey, BadInclusion, CyclicInclusion, BadView, Limit}
+use Rattle.wh_schema.specs.declared.fault.SpecCause.TheVariants.{UnknownRelation, RepeatedName, ReservedName, KindClash, BadKey, BadInclusion, CyclicInclusion, BadCheck, BadView, Limit}
 use Rattle.wh_schema.specs.declared.fault.SpecFault.{SpecFault}
 use Rattle.wh_schema.specs.declared.fault.SpecFault.TheVariants.{At, NoMemory}
 use Rattle.wh_schema.specs.declared.raw.RawStatement.{RawStatement}
@@ -16,28 +16,32 @@ use Rattle.wh_schema.specs.Warehouse.{relation_at}
 
 -- ---- the first name of a statement, from the left, that breaks a rule
 
--- a name of a side or a member that is no relation
+-- a name of a side, of a check's relation or of a member that is no relation
 abbrev pub unknown_name : Spec → RawStatement → Option (List ℕ)
 unknown_name spec (statement.Relation r) = None
 unknown_name spec (statement.Inclusion c) = first_unknown_side spec c
+unknown_name spec (statement.Check c) = first_unknown (relation_names spec) (c.relation ∷ [])
 unknown_name spec (statement.View v) = first_unknown (relation_names spec) v.relations
 
 -- a repeated name breaks the rule where it comes again
 abbrev pub repeated_name : Spec → RawStatement → Option (List ℕ)
 repeated_name spec (statement.Relation r) = if is_taken spec r.name then Some r.name else first_repeat (names_of r.attrs)
 repeated_name spec (statement.Inclusion c) = None
+repeated_name spec (statement.Check c) = Some c.name
 repeated_name spec (statement.View v) = Some v.name
 
 -- the name that a statement gives
 abbrev pub given_name : RawStatement → Option (List ℕ)
 given_name (statement.Relation r) = Some r.name
 given_name (statement.Inclusion c) = None
+given_name (statement.Check c) = Some c.name
 given_name (statement.View v) = Some v.name
 
 -- an attribute that has another kind in an earlier relation
 abbrev pub clashing_name : Spec → RawStatement → Option (List ℕ)
 clashing_name spec (statement.Relation r) = option_map (λ a. a.name) (first_clash spec.relations r.attrs)
 clashing_name spec (statement.Inclusion c) = None
+clashing_name spec (statement.Check c) = None
 clashing_name spec (statement.View v) = None
 
 -- the name that breaks the rule of a cause; the other causes name none
@@ -66,6 +70,7 @@ abbrev pub limit_word : LimitWord → List ℕ
 limit_word Relations = codes "relations"
 limit_word Attributes = codes "attributes"
 limit_word Inclusions = codes "inclusions"
+limit_word Checks = codes "checks"
 limit_word Views = codes "views"
 limit_word Members = codes "members"
 limit_word NameBytes = codes "name"
@@ -80,6 +85,7 @@ words_before KindClash = codes "attribute "
 words_before BadKey = codes "bad key"
 words_before BadInclusion = codes "bad inclusion"
 words_before (CyclicInclusion cycle) = codes "cyclic inclusion "
+words_before BadCheck = codes "bad check"
 words_before BadView = codes "bad view"
 words_before (Limit which) = codes "limit: "
 

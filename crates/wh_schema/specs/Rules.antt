@@ -9,16 +9,18 @@ use Rattle.wh_base.specs.declared.value.Kind.{Kind}
 use Rattle.wh_base.specs.declared.value.Kind.TheVariants as kind
 use Rattle.wh_base.specs.Columns.{name_eq, is_in, names_of, place_of}
 use Rattle.wh_base.specs.Cond.{kind_of, faults, nodes, cond_names}
-use Rattle.wh_schema.specs.declared.fault.LimitWord.TheVariants.{Relations, Attributes, Inclusions, Views, Members, NameBytes, Nodes}
+use Rattle.wh_schema.specs.declared.fault.LimitWord.TheVariants.{Relations, Attributes, Inclusions, Checks, Views, Members, NameBytes, Nodes}
 use Rattle.wh_schema.specs.declared.fault.SpecCause.{SpecCause}
-use Rattle.wh_schema.specs.declared.fault.SpecCause.TheVariants.{UnknownRelation, RepeatedName, ReservedName, KindClash, BadKey, BadInclusion, CyclicInclusion, BadView, Limit}
+use Rattle.wh_schema.specs.declared.fault.SpecCause.TheVariants.{UnknownRelation, RepeatedName, ReservedName, KindClash, BadKey, BadInclusion, CyclicInclusion, BadCheck, BadView, Limit}
 use Rattle.wh_schema.specs.declared.fault.SpecFault.{SpecFault}
 use Rattle.wh_schema.specs.declared.fault.SpecFault.TheVariants.{At, NoMemory}
+use Rattle.wh_schema.specs.declared.raw.RawCheck.{RawCheck}
 use Rattle.wh_schema.specs.declared.raw.RawInclusion.{RawInclusion}
 use Rattle.wh_schema.specs.declared.raw.RawRelation.{RawRelation}
 use Rattle.wh_schema.specs.declared.raw.RawStatement.{RawStatement}
 use Rattle.wh_schema.specs.declared.raw.RawStatement.TheVariants as statement
 use Rattle.wh_schema.specs.declared.raw.RawView.{RawView}
+use Rattle.wh_schema.specs.declared.spec.Check.{Check}
 use Rattle.wh_schema.specs.declared.spec.Inclusion.{Inclusion}
 use Rattle.wh_schema.specs.declared.spec.Relation.{Relation}
 use Rattle.wh_schema.specs.declared.spec.Spec.{Spec}
@@ -37,6 +39,11 @@ abbrev pub broken_by : {X : Type 0} → Option X → SpecCause → List SpecCaus
 broken_by None cause = []
 broken_by (Some x) cause = cause ∷ []
 
+-- the cause, where anything breaks its rule
+abbrev pub broken_by_each : {X : Type 0} → List X → SpecCause → List SpecCause
+broken_by_each [] cause = []
+broken_by_each (x ∷ xs) cause = cause ∷ []
+
 -- Ok where no rule is broken, else the first broken one
 abbrev pub first_cause : List SpecCause → Result Unit SpecCause
 first_cause [] = Ok tt
@@ -47,6 +54,10 @@ first_cause (cause ∷ causes) = Err cause
 -- the names of the relations, by number
 abbrev pub relation_names : Spec → List (List ℕ)
 relation_names spec = map (λ r. r.name) spec.relations
+
+-- the names of the checks, by number
+abbrev pub check_names : Spec → List (List ℕ)
+check_names spec = map (λ c. c.name) spec.checks
 
 -- the names of the views, by number
 abbrev pub view_names : Spec → List (List ℕ)
@@ -140,6 +151,10 @@ relation_of r = record { name = r.name; attrs = r.attrs; key = r.key }
 abbrev pub inclusion_of : Spec → RawInclusion → Inclusion
 inclusion_of spec c = record { from = number_of spec c.from; from_cols = c.from_cols; to = number_of spec c.to; to_cols = c.to_cols }
 
+-- a check has what its statement says, and its relation by number
+abbrev pub check_of : Spec → RawCheck → Check
+check_of spec c = record { name = c.name; relation = number_of spec c.relation; cond = c.cond }
+
 -- a view has what its statement says, its relations by number, and always a head
 abbrev pub view_of : Spec → RawView → View
 view_of spec v = record { name = v.name; relations = members spec v; cond = v.cond; head = head_or (member_attrs spec v) v.head }
@@ -148,11 +163,12 @@ view_of spec v = record { name = v.name; relations = members spec v; cond = v.co
 abbrev pub added : Spec → RawStatement → Spec
 added spec (statement.Relation r) = record spec { relations = spec.relations ++ relation_of r ∷ [] }
 added spec (statement.Inclusion c) = record spec { inclusions = spec.inclusions ++ inclusion_of spec c ∷ [] }
+added spec (statement.Check c) = record spec { checks = spec.checks ++ check_of spec c ∷ [] }
 added spec (statement.View v) = record spec { views = spec.views ++ view_of spec v ∷ [] }
 
 -- the specification of no statement
 abbrev pub empty_spec : Spec
-empty_spec = record { relations = []; inclusions = []; views = [] }
+empty_spec = record { relations = []; inclusions = []; checks = []; views = [] }
 
 -- the specification of some statements, whatever rules they break
 abbrev pub declared : List RawStatement → Spec
@@ -247,6 +263,34 @@ cyclic_if (Some cycle) = CyclicInclusion cycle ∷ []
 abbrev pub cyclic : Spec → RawInclusion → List SpecCause
 cyclic spec c = cyclic_if (closed_cycle spec (number_of spec c.from) (number_of spec c.to))
 
+-- ---- the rules of a condition
+
+-- the condition has more than 1,000 nodes
+abbrev pub too_many_nodes : Cond → List SpecCause
+too_many_nodes c = broken_if (nat_lt 1000 (nodes c)) (Limit Nodes)
+
+-- ---- the rules of a check
+
+-- all names of the statement
+abbrev pub check_words : RawCheck → List (List ℕ)
+check_words c = c.name ∷ c.relation ∷ cond_names c.cond
+
+-- there are 64 checks already
+abbrev pub too_many_checks : Spec → List SpecCause
+too_many_checks spec = broken_if (nat_le 64 (length spec.checks)) (Limit Checks)
+
+-- an earlier check has its name
+abbrev pub repeated_check : Spec → RawCheck → List SpecCause
+repeated_check spec c = broken_if (is_in (check_names spec) c.name) RepeatedName
+
+-- its relation is none
+abbrev pub unknown_checked : Spec → RawCheck → List SpecCause
+unknown_checked spec c = broken_by (first_unknown (relation_names spec) (c.relation ∷ [])) UnknownRelation
+
+-- its condition is not typed over the attributes of its relation
+abbrev pub untyped_check : List CondFault → List SpecCause
+untyped_check fs = broken_by_each fs BadCheck
+
 -- ---- the rules of a view
 
 -- the head as it is written
@@ -279,12 +323,7 @@ bad_head attrs v = broken_by (first_unknown (names_of attrs) (written_head v)) B
 
 -- the condition is not typed over the join
 abbrev pub untyped : List CondFault → List SpecCause
-untyped [] = []
-untyped (f ∷ fs) = BadView ∷ []
-
--- the condition has more than 1,000 nodes
-abbrev pub too_many_nodes : Cond → List SpecCause
-too_many_nodes c = broken_if (nat_lt 1000 (nodes c)) (Limit Nodes)
+untyped fs = broken_by_each fs BadView
 
 -- the rules of its members
 abbrev pub member_faults : Spec → RawView → List SpecCause
@@ -312,6 +351,18 @@ inclusion_name_faults spec c = too_many_inclusions spec ++ too_long_name (inclus
 abbrev pub inclusion_faults : Spec → RawInclusion → List SpecCause
 inclusion_faults spec c = inclusion_name_faults spec c ++ bad_inclusion (attrs_of spec c.from) (attrs_of spec c.to) c ++ cyclic spec c
 
+-- the rules of the number of checks and of its names
+abbrev pub check_name_faults : Spec → RawCheck → List SpecCause
+check_name_faults spec c = too_many_checks spec ++ too_long_name (check_words c) ++ repeated_check spec c ++ unknown_checked spec c
+
+-- the rules of its condition, where its relation has these attributes
+abbrev pub check_shape_faults : List Attr → RawCheck → List SpecCause
+check_shape_faults attrs c = untyped_check (faults c.cond attrs) ++ too_many_nodes c.cond
+
+-- all rules of a check, in their order
+abbrev pub check_faults : Spec → RawCheck → List SpecCause
+check_faults spec c = check_name_faults spec c ++ check_shape_faults (attrs_of spec c.relation) c
+
 -- the rules of the number of views and of its names
 abbrev pub view_name_faults : Spec → RawView → List SpecCause
 view_name_faults spec v = too_many_views spec ++ too_long_name (view_words v) ++ reserved_name v.name ++ taken_name spec v.name
@@ -324,6 +375,7 @@ view_faults spec v = view_name_faults spec v ++ member_faults spec v ++ shape_fa
 abbrev pub rule_faults : Spec → RawStatement → List SpecCause
 rule_faults spec (statement.Relation r) = relation_faults spec r
 rule_faults spec (statement.Inclusion c) = inclusion_faults spec c
+rule_faults spec (statement.Check c) = check_faults spec c
 rule_faults spec (statement.View v) = view_faults spec v
 
 -- ---- a whole specification
@@ -357,12 +409,13 @@ Gives (Ok x) outcome = outcome ≡ Ok x
 Gives (Err NoMemory) outcome = Unit {0}
 Gives (Err (At n cause)) outcome = outcome ≡ Err (At n cause)
 
--- how many relations, inclusions and views a specification may have
+-- how many relations, inclusions, checks and views a specification may have
 pub record IsWithinLimits (spec : Spec) : Type 0 where
   pub relations : length spec.relations ≤ 64
   pub inclusions : length spec.inclusions ≤ 128
+  pub checks : length spec.checks ≤ 64
   pub views : length spec.views ≤ 64
 
 -- how many it has together
 abbrev pub size : Spec → ℕ
-size spec = length spec.relations + length spec.inclusions + length spec.views
+size spec = length spec.relations + length spec.inclusions + length spec.checks + length spec.views

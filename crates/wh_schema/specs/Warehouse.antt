@@ -9,6 +9,7 @@ use Rattle.wh_base.specs.Tables.{Table, select, project, join_all, without, with
 use Rattle.wh_schema.specs.declared.piece.Piece.{Piece}
 use Rattle.wh_schema.specs.declared.piece.PieceSource.{PieceSource}
 use Rattle.wh_schema.specs.declared.piece.PieceSource.TheVariants as source
+use Rattle.wh_schema.specs.declared.spec.Check.{Check}
 use Rattle.wh_schema.specs.declared.spec.Inclusion.{Inclusion}
 use Rattle.wh_schema.specs.declared.spec.Relation.{Relation}
 use Rattle.wh_schema.specs.declared.spec.Spec.{Spec}
@@ -25,6 +26,9 @@ no_relation = record { name = []; attrs = []; key = [] }
 abbrev pub no_inclusion : Inclusion
 no_inclusion = record { from = 0; from_cols = []; to = 0; to_cols = [] }
 
+abbrev pub no_check : Check
+no_check = record { name = []; relation = 0; cond = Always }
+
 abbrev pub no_view : View
 no_view = record { name = []; relations = []; cond = Always; head = [] }
 
@@ -33,6 +37,9 @@ relation_at spec i = get_or spec.relations i no_relation
 
 abbrev pub inclusion_at : Spec → ℕ → Inclusion
 inclusion_at spec i = get_or spec.inclusions i no_inclusion
+
+abbrev pub check_at : Spec → ℕ → Check
+check_at spec k = get_or spec.checks k no_check
 
 abbrev pub view_at : Spec → ℕ → View
 view_at spec j = get_or spec.views j no_view

@@ -1,11 +1,11 @@
 ghost use Rattle.std.specs.Prelude.{◌≡◌, ◌<◌, ◌^◌, filter, map, not, length, IfOk};
 ghost use Rattle.wh_base.specs.Columns.{is_in, names_of};
-ghost use Rattle.wh_schema.specs.Rules.{join_attrs, joined_attrs, member_attrs, number_of, head_or, relation_of, inclusion_of, view_of, added, empty_spec};
+ghost use Rattle.wh_schema.specs.Rules.{join_attrs, joined_attrs, member_attrs, number_of, head_or, relation_of, inclusion_of, check_of, view_of, added, empty_spec};
 ghost use Rattle.wh_schema.specs.Warehouse.{relation_at};
 
 use crate::names::has_name;
-use crate::raw::{RawInclusion, RawRelation, RawStatement, RawView};
-use crate::spec::{Inclusion, Relation, Spec, View};
+use crate::raw::{RawCheck, RawInclusion, RawRelation, RawStatement, RawView};
+use crate::spec::{Check, Inclusion, Relation, Spec, View};
 use std::alloc::Global;
 use wh_base::{
     Attr, Attrs, Duplicate, Name, Names, NoMemory, Places, Sequence, names_of, place_of,
@@ -106,6 +106,17 @@ fn inclusion_of(alloc: Global, spec: &Spec, raw: &RawInclusion) -> Result<Inclus
     })
 }
 
+fn check_of(alloc: Global, spec: &Spec, raw: &RawCheck) -> Result<Check, NoMemory>
+    requires { length spec.now.relations < 2 ^ 32 }
+    ensures { IfOk result (λ check. check ≡ check_of spec.now raw.now) }
+{
+    Ok(Check {
+        name: raw.name.copy(alloc)?,
+        relation: number_of(spec, &raw.relation),
+        cond: raw.cond.copy(alloc)?,
+    })
+}
+
 fn head_or(alloc: Global, attrs: &Attrs, head: &Option<Names>) -> Result<Names, NoMemory>
     ensures { IfOk result (λ names. names ≡ head_or attrs.now head.now) }
 {
@@ -145,6 +156,10 @@ pub(crate) fn added(alloc: Global, spec: Spec, raw: &RawStatement) -> Result<Spe
             let inclusion = inclusion_of(alloc, &more, raw)?;
             more.inclusions.push(inclusion)?;
         }
+        RawStatement::Check(raw) => {
+            let check = check_of(alloc, &more, raw)?;
+            more.checks.push(check)?;
+        }
         RawStatement::View(raw) => {
             let view = view_of(alloc, &more, raw)?;
             more.views.push(view)?;
@@ -159,6 +174,7 @@ pub(crate) fn empty_spec(alloc: Global) -> Spec
     Spec {
         relations: Sequence::new(alloc),
         inclusions: Sequence::new(alloc),
+        checks: Sequence::new(alloc),
         views: Sequence::new(alloc),
     }
 }

@@ -1,6 +1,6 @@
 use wh_base::Row;
 
-/// The first broken constraint, numbered from 1 (keys in relation order, then inclusions in declared order), and its least value.
+/// The number, from 1, of the first broken constraint, and the least value that breaks it.
 #[derive(Debug, Drop)]
 pub struct Broken {
     pub constraint: u32,

@@ -2,6 +2,7 @@ ghost use Rattle.std.specs.Prelude.{◌≡◌, ◌<◌, ◌^◌, length, IfOk};
 ghost use Rattle.wh_schema.specs.Rules.{first_cause, cyclic, inclusion_faults, member_attrs, checked, rule_faults, view_faults, shape_faults, located, next, IsWithinLimits, Gives};
 
 use crate::adding::{added, empty_spec, member_attrs, number_of};
+use crate::check_rules::check_check;
 use crate::cycle::closed_cycle;
 use crate::fault::{SpecCause, SpecFault};
 use crate::inclusion_rules::check_inclusion_sides;
@@ -77,6 +78,7 @@ fn check_statement(
     match raw {
         RawStatement::Relation(raw) => located(statement, check_relation(spec, raw)),
         RawStatement::Inclusion(raw) => check_inclusion(alloc, spec, statement, raw),
+        RawStatement::Check(raw) => located(statement, check_check(alloc, spec, raw)),
         RawStatement::View(raw) => check_view(alloc, spec, statement, raw),
     }
 }

@@ -6,6 +6,7 @@ pub enum LimitWord {
     Relations,
     Attributes,
     Inclusions,
+    Checks,
     Views,
     Members,
     NameBytes,
@@ -23,6 +24,7 @@ pub enum SpecCause {
     BadInclusion,
     /// The numbers of the relations on the cycle, from the left one on.
     CyclicInclusion { cycle: Places },
+    BadCheck,
     BadView,
     Limit { which: LimitWord },
 }

@@ -4,11 +4,19 @@ ghost use Rattle.std.specs.List.{list_any};
 ghost use Rattle.wh_base.specs.Columns.{is_in};
 ghost use Rattle.wh_schema.specs.Rules.{first_unknown, first_repeat, first_clash, clashes, kind_in, same_kind, is_clash, has_long_name, is_long};
 
-use crate::spec::{Relation, View};
+use crate::spec::{Check, Relation, View};
 use wh_base::{Attr, Kind, Name, Named, kind_of};
 
 impl Named for Relation {
     ghost name_of = { λ relation. relation.name };
+
+    fn name(&self) -> &Name {
+        &self.name
+    }
+}
+
+impl Named for Check {
+    ghost name_of = { λ check. check.name };
 
     fn name(&self) -> &Name {
         &self.name

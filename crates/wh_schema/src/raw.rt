@@ -20,6 +20,14 @@ pub struct RawInclusion {
     pub to_cols: Names,
 }
 
+/// A `check` statement.
+#[derive(Debug, Drop)]
+pub struct RawCheck {
+    pub name: Name,
+    pub relation: Name,
+    pub cond: Cond,
+}
+
 /// A `view` statement. Without a head it has all attributes of the join.
 #[derive(Debug, Drop)]
 pub struct RawView {
@@ -34,6 +42,7 @@ pub struct RawView {
 pub enum RawStatement {
     Relation(RawRelation),
     Inclusion(RawInclusion),
+    Check(RawCheck),
     View(RawView),
 }
 

@@ -1,7 +1,7 @@
 //! The rules of statements: each answers its cause where it is broken.
 ghost use Rattle.std.specs.Prelude.{◌≡◌, ◌++◌};
 ghost use Rattle.wh_base.specs.Cond.{cond_names, operand_names, faults};
-ghost use Rattle.wh_schema.specs.Rules.{broken_if, broken_by, first_cause, has_long_name, is_reserved, is_taken, relation_name_faults, kind_clash, bad_key, attribute_faults, relation_words, relation_faults, written_head, view_words, member_faults, bad_head, untyped, too_many_nodes, shape_faults, view_name_faults};
+ghost use Rattle.wh_schema.specs.Rules.{broken_if, broken_by, broken_by_each, first_cause, has_long_name, is_reserved, is_taken, relation_name_faults, kind_clash, bad_key, attribute_faults, relation_words, relation_faults, written_head, view_words, member_faults, bad_head, too_many_nodes, shape_faults, view_name_faults};
 
 use crate::fault::{LimitWord, SpecCause};
 use crate::names::{first_clash, first_repeat, first_unknown, has_long_name, has_name, is_long};
@@ -95,7 +95,7 @@ pub(crate) fn check_relation(spec: &Spec, raw: &RawRelation) -> Result<(), SpecC
     check_attributes(spec, raw)
 }
 
-// ---- views
+// ---- conditions
 
 fn is_long_operand(operand: &Operand) -> bool
     ensures { result ≡ has_long_name (operand_names operand.now) }
@@ -106,7 +106,7 @@ fn is_long_operand(operand: &Operand) -> bool
     }
 }
 
-fn has_long_operand(cond: &Cond) -> bool
+pub(crate) fn has_long_operand(cond: &Cond) -> bool
     ensures { result ≡ has_long_name (cond_names cond.now) }
 {
     match cond {
@@ -118,6 +118,24 @@ fn has_long_operand(cond: &Cond) -> bool
         Cond::Not(inner) => has_long_operand(inner.get()),
     }
 }
+
+/// A condition that is not typed over the attributes has the cause.
+pub(crate) fn check_typed(attrs: &Attrs, cond: &Cond, cause: SpecCause) -> Result<(), SpecCause>
+    ensures { result ≡ first_cause (broken_by_each (faults cond.now attrs.now) cause) }
+{
+    match cond_typed(cond, attrs) {
+        Ok(()) => Ok(()),
+        Err(_) => Err(cause),
+    }
+}
+
+pub(crate) fn check_nodes(cond: &Cond) -> Result<(), SpecCause>
+    ensures { result ≡ first_cause (too_many_nodes cond.now) }
+{
+    limit(nodes_up_to(cond, 1_000) > 1_000, LimitWord::Nodes)
+}
+
+// ---- views
 
 fn written_head(raw: &RawView) -> &[Name]
     ensures { result.now ≡ written_head raw.now }
@@ -171,26 +189,11 @@ fn check_head(attrs: &Attrs, raw: &RawView) -> Result<(), SpecCause>
     refuse_found(first_repeat(head), SpecCause::BadView)
 }
 
-fn check_typed(attrs: &Attrs, cond: &Cond) -> Result<(), SpecCause>
-    ensures { result ≡ first_cause (untyped (faults cond.now attrs.now)) }
-{
-    match cond_typed(cond, attrs) {
-        Ok(()) => Ok(()),
-        Err(_) => Err(SpecCause::BadView),
-    }
-}
-
-fn check_nodes(cond: &Cond) -> Result<(), SpecCause>
-    ensures { result ≡ first_cause (too_many_nodes cond.now) }
-{
-    limit(nodes_up_to(cond, 1_000) > 1_000, LimitWord::Nodes)
-}
-
 /// The rules of a view over the attributes of its join.
 pub(crate) fn check_view_shape(attrs: &Attrs, raw: &RawView) -> Result<(), SpecCause>
     ensures { result ≡ first_cause (shape_faults attrs.now raw.now) }
 {
     check_head(attrs, raw)?;
-    check_typed(attrs, &raw.cond)?;
+    check_typed(attrs, &raw.cond, SpecCause::BadView)?;
     check_nodes(&raw.cond)
 }

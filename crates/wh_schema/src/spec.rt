@@ -18,6 +18,14 @@ pub struct Inclusion {
     pub to_cols: Names,
 }
 
+/// A condition that each row of a relation meets.
+#[derive(Debug, Drop)]
+pub struct Check {
+    pub name: Name,
+    pub relation: u32,
+    pub cond: Cond,
+}
+
 /// A view: the natural join of its relations, selected by its condition and projected to its head.
 #[derive(Debug, Drop)]
 pub struct View {
@@ -32,6 +40,7 @@ pub struct View {
 pub struct Spec {
     pub relations: Sequence<Relation>,
     pub inclusions: Sequence<Inclusion>,
+    pub checks: Sequence<Check>,
     pub views: Sequence<View>,
 }
 
@@ -56,6 +65,16 @@ impl Duplicate for Inclusion {
     }
 }
 
+impl Duplicate for Check {
+    fn copy(&self, alloc: Global) -> Result<Check, NoMemory> {
+        Ok(Check {
+            name: self.name.copy(alloc)?,
+            relation: self.relation,
+            cond: self.cond.copy(alloc)?,
+        })
+    }
+}
+
 impl Duplicate for View {
     fn copy(&self, alloc: Global) -> Result<View, NoMemory> {
         Ok(View {
@@ -72,6 +91,7 @@ impl Duplicate for Spec {
         Ok(Spec {
             relations: self.relations.copy(alloc)?,
             inclusions: self.inclusions.copy(alloc)?,
+            checks: self.checks.copy(alloc)?,
             views: self.views.copy(alloc)?,
         })
     }

@@ -6,6 +6,7 @@ ghost use Rattle.wh_schema.specs.RuleWords.{unknown_name, repeated_name, given_n
 ghost use Rattle.wh_schema.specs.Warehouse.{relation_at};
 
 use crate::adding::{added, empty_spec};
+use crate::check_rules::unknown_relation;
 use crate::fault::{LimitWord, SpecCause, SpecFault};
 use crate::inclusion_rules::first_unknown_side;
 use crate::names::{first_clash, first_repeat, first_unknown};
@@ -44,6 +45,7 @@ fn unknown_name<'a>(spec: &Spec, statement: &'a RawStatement) -> Option<&'a Name
     match statement {
         RawStatement::Relation(_) => None,
         RawStatement::Inclusion(raw) => first_unknown_side(spec, raw),
+        RawStatement::Check(raw) => unknown_relation(spec, raw),
         RawStatement::View(raw) => {
             first_unknown(spec.relations.as_slice(), raw.relations.as_slice())
         }
@@ -62,6 +64,7 @@ fn repeated_name<'a>(spec: &Spec, statement: &'a RawStatement) -> Option<&'a Nam
             }
         }
         RawStatement::Inclusion(_) => None,
+        RawStatement::Check(raw) => Some(&raw.name),
         RawStatement::View(raw) => Some(&raw.name),
     }
 }
@@ -72,6 +75,7 @@ fn given_name(statement: &RawStatement) -> Option<&Name>
     match statement {
         RawStatement::Relation(raw) => Some(&raw.name),
         RawStatement::Inclusion(_) => None,
+        RawStatement::Check(raw) => Some(&raw.name),
         RawStatement::View(raw) => Some(&raw.name),
     }
 }
@@ -86,7 +90,7 @@ fn clashing_name<'a>(spec: &Spec, statement: &'a RawStatement) -> Option<&'a Nam
                 None => None,
             }
         }
-        RawStatement::Inclusion(_) | RawStatement::View(_) => None,
+        RawStatement::Inclusion(_) | RawStatement::Check(_) | RawStatement::View(_) => None,
     }
 }
 
@@ -136,6 +140,7 @@ fn limit_word(which: LimitWord) -> &'static [u8]
         LimitWord::Relations => b"relations",
         LimitWord::Attributes => b"attributes",
         LimitWord::Inclusions => b"inclusions",
+        LimitWord::Checks => b"checks",
         LimitWord::Views => b"views",
         LimitWord::Members => b"members",
         LimitWord::NameBytes => b"name",
@@ -154,6 +159,7 @@ fn words_before(cause: &SpecCause) -> &'static [u8]
         SpecCause::BadKey => b"bad key",
         SpecCause::BadInclusion => b"bad inclusion",
         SpecCause::CyclicInclusion { .. } => b"cyclic inclusion ",
+        SpecCause::BadCheck => b"bad check",
         SpecCause::BadView => b"bad view",
         SpecCause::Limit { .. } => b"limit: ",
     }
