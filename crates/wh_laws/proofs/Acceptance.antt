@@ -10,7 +10,7 @@ use Rattle.wh_base.specs.declared.value.Attr.{Attr}
 use Rattle.wh_base.specs.Columns.{name_eq, is_in, names_of, place_of}
 use Rattle.wh_schema.specs.declared.fault.SpecCause.{SpecCause}
 use Rattle.wh_schema.specs.declared.spec.Spec.{Spec}
-use Rattle.wh_schema.specs.Rules.{broken_by, first_unknown, first_again, first_repeat, join_attrs, joined_attrs}
+use Rattle.wh_schema.specs.Rules.{broken_by, broken_by_each, first_unknown, first_again, first_repeat, join_attrs, joined_attrs}
 use Rattle.wh_schema.specs.Warehouse.{columns_of, relation_at}
 use Rattle.wh_laws.proofs.Equality.{Name, name_eq_decides, is_in_decides, is_false}
 use Rattle.wh_laws.proofs.Lists.{Contains-nil, Contains-here, Contains-there, Contains-cases, Contains-is, filter_from, map_in, map_from}
@@ -21,6 +21,11 @@ use Rattle.wh_laws.proofs.Lists.{Contains-nil, Contains-here, Contains-there, Co
 pub not_found : {X : Type 0} (o : Option X) (cause : SpecCause) → broken_by o cause ≡ [] → o ≡ None
 not_found None cause e = refl
 not_found (Some x) cause e = cc
+
+-- a rule that names no cause found nothing wrong
+pub none_wrong : {X : Type 0} (xs : List X) (cause : SpecCause) → broken_by_each xs cause ≡ [] → xs ≡ []
+none_wrong [] cause e = refl
+none_wrong (x ∷ xs) cause e = cc
 
 -- a search that found nothing passed no item
 pub none_passes : {X : Type 0} (p : X → Bool) (xs : List X) → find p xs ≡ None → (x : X) → Contains xs x → p x ≡ false

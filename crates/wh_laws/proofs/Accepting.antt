@@ -37,7 +37,7 @@ accepted (s ∷ statements) n spec t e =
     }
 
 pub empty_within : IsWithinLimits empty_spec
-empty_within = record { relations = omega arith; inclusions = omega arith; views = omega arith }
+empty_within = record { relations = omega arith; inclusions = omega arith; checks = omega arith; views = omega arith }
 
 pub empty_well : WellFormed empty_spec
 empty_well = record {
@@ -45,6 +45,7 @@ empty_well = record {
   some_attribute = λ i h. absurd (omega arith);
   key = λ i h. absurd (omega arith);
   inclusions = λ c h. absurd (Contains-nil c h);
+  checks = λ c h. absurd (Contains-nil c h);
   views = λ v h. absurd (Contains-nil v h);
   acyclic = λ k h. absurd (omega arith);
 }

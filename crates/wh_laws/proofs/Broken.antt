@@ -1,7 +1,6 @@
 -- The broken constraint is the first in number, with its least value.
-use Rattle.std.proofs.Common.{◌≡◌, ◌⊎◌, ℕ, zero, suc, ◌<◌, ◌+◌, ◌-◌, true, List, [], ◌∷◌, ◌++◌, map, length, get_or, Option, Some, None, Contains, refl, sym, ◌∙◌, ap, subst, inl, inr, arith, zero-lt-suc, suc-le-suc, le_of_suc-le-suc, Less}
-use Rattle.std.proofs.lemmas.Bool.{cases_lt}
-use Rattle.std.proofs.lemmas.List.{get_or_append_left, get_or-append-add, get_or-map, length-append, length-map}
+use Rattle.std.proofs.Common.{◌≡◌, ◌⊎◌, ℕ, zero, suc, ◌<◌, ◌+◌, true, List, [], ◌∷◌, length, get_or, Option, Some, None, Contains, refl, sym, ap, subst, inl, inr, arith, zero-lt-suc, suc-le-suc, le_of_suc-le-suc, Less}
+use Rattle.std.proofs.lemmas.List.{get_or-map, length-map}
 use Rattle.std.specs.List.Sorted.{IsStrictlySortedBy}
 use Rattle.std.proofs.lemmas.List.Elements.{Contains-get_or, All-contains, All-from_recursion}
 use Rattle.std.proofs.lemmas.Map.Keys.{sorted_head}
@@ -10,13 +9,15 @@ use Rattle.wh_base.specs.Value.{row_cmp}
 use Rattle.wh_base.proofs.InOrder.{Contains-in_order, Contains-from_in_order, IsAscending-in_order}
 use Rattle.wh_schema.specs.declared.broken.Broken.{Broken}
 use Rattle.wh_schema.specs.declared.spec.Spec.{Spec}
-use Rattle.wh_schema.specs.Constraints.{Legal, repeated_keys, missing_values, breaks, least_or, first_break, broken}
-use Rattle.wh_schema.specs.Warehouse.{Row, State, numbers, no_inclusion, inclusion_at}
-use Rattle.wh_laws.specs.Laws.{IsFirstBreak, KeyIsCarried, InclusionIsCarried}
+use Rattle.wh_schema.specs.declared.constraint.Constraint.{Constraint}
+use Rattle.wh_schema.specs.declared.constraint.Constraint.TheVariants as constraint
+use Rattle.wh_schema.specs.Constraints.{Legal, violations, constraints, breaks, least_or, first_break, broken}
+use Rattle.wh_schema.proofs.Numbered.{at_number}
+use Rattle.wh_schema.specs.Warehouse.{Row, State}
+use Rattle.wh_laws.specs.Laws.{IsFirstBreak, BreakIsCarried}
 use Rattle.wh_laws.proofs.Lists.{Contains-here, Contains-cases}
 use Rattle.wh_laws.proofs.Equality.{has_decides}
-use Rattle.wh_laws.proofs.Changes.{empty_in_order, key_carried, inclusion_carried}
-use Rattle.wh_laws.proofs.Stored.{length_numbers_map, numbers_map_at}
+use Rattle.wh_laws.proofs.Changes.{empty_in_order, listed, violations_carried}
 
 the : Option Broken → Broken
 the None = record { constraint = 0; value = [] }
@@ -80,54 +81,18 @@ broken_first spec s b e = first_break_is 1 (breaks spec s) b e
 -- ---- carried by a row that changed
 
 module _ (spec : Spec) (t : State) where
-  key_breaks : List (List Row)
-  key_breaks = map (repeated_keys spec t) (numbers (length spec.relations))
+  none_at : Constraint
+  none_at = constraint.Key 0
 
-  inclusion_breaks : List (List Row)
-  inclusion_breaks = map (missing_values spec t) spec.inclusions
-
-  key_breaks_length : length key_breaks ≡ length spec.relations
-  unfolding key_breaks
-  key_breaks_length = length_numbers_map (repeated_keys spec t) (length spec.relations)
-
-  breaks_length : length (breaks spec t) ≡ length spec.relations + length spec.inclusions
-  unfolding key_breaks inclusion_breaks
-  breaks_length =
-      length-append key_breaks inclusion_breaks
-      ∙ ap (λ n. n + length inclusion_breaks) key_breaks_length ∙ ap (λ n. length spec.relations + n) (length-map spec.inclusions (missing_values spec t))
-
-  breaks_at_key : (i : ℕ) → i < length spec.relations → get_or (breaks spec t) i [] ≡ repeated_keys spec t i
-  unfolding key_breaks inclusion_breaks
-  breaks_at_key i l =
-      let m : i < length key_breaks = omega (arith, key_breaks_length) in
-      get_or_append_left key_breaks inclusion_breaks [] i m ∙ numbers_map_at (repeated_keys spec t) (length spec.relations) i [] l
-
-  breaks_at_inclusion : (k : ℕ) → k < length spec.inclusions → get_or (breaks spec t) (length spec.relations + k) [] ≡ missing_values spec t (inclusion_at spec k)
-  unfolding key_breaks inclusion_breaks
-  breaks_at_inclusion k l =
-      ap (λ n. get_or (key_breaks ++ inclusion_breaks) (n + k) []) (sym key_breaks_length) ∙ get_or-append-add key_breaks inclusion_breaks k []
-      ∙ get_or-map (missing_values spec t) spec.inclusions k no_inclusion [] l
-
-  pub broken_carried : (s : State) → Legal spec s → (b : Broken) → broken spec t ≡ Some b → KeyIsCarried spec s t b ⊎ InclusionIsCarried spec s t b
+  pub broken_carried : (s : State) → Legal spec s → (b : Broken) → broken spec t ≡ Some b → BreakIsCarried spec s t b
   broken_carried s legal b e =
       let f = broken_first spec t b e in
+      let c = get_or (constraints spec) f.place none_at in
+      let within : f.place < length (constraints spec) = omega (arith, f.within, length-map (constraints spec) (violations spec t)) in
+      let here : get_or (breaks spec t) f.place [] ≡ violations spec t c = get_or-map (violations spec t) (constraints spec) f.place none_at [] within in
       let P : List Row → Type 0 = λ rows. has rows b.value ≡ true in
-      elim (cases_lt f.place (length spec.relations)) [
-        | inl l ↦ inl (record {
-          relation = f.place;
-          within = l;
-          number = f.number;
-          carried = key_carried spec s t legal f.place l b.value (subst P (breaks_at_key f.place l) f.value);
-        })
-        | inr l ↦
-            let k = f.place - length spec.relations in
-            let at : length spec.relations + k ≡ f.place = omega arith in
-            let m : k < length spec.inclusions = omega (arith, breaks_length, f.within) in
-            let here : get_or (breaks spec t) f.place [] ≡ missing_values spec t (inclusion_at spec k) = ap (λ n. get_or (breaks spec t) n []) (sym at) ∙ breaks_at_inclusion k m in
-            inr (record {
-              inclusion = k;
-              within = m;
-              number = omega (arith, f.number);
-              carried = inclusion_carried spec s t legal (inclusion_at spec k) (Contains-get_or spec.inclusions k _ m) b.value (subst P here f.value);
-            })
-      ]
+      record {
+        constraint = c;
+        number = at_number spec b.constraint f.place none_at (omega (arith, f.number)) within;
+        carried = violations_carried spec s t legal c (listed spec c (Contains-get_or (constraints spec) f.place none_at within)) b.value (subst P here f.value);
+      }

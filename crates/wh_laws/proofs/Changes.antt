@@ -1,7 +1,8 @@
 -- What breaks a constraint of a changed state was carried by a row that changed, a legal state breaks nothing, and a key that no changed row carries keeps its rows of the complement.
-use Rattle.std.proofs.Common.{◌≡◌, ◌⊎◌, ◌↔◌, ℕ, ◌<◌, ◌+◌, not, ◌&&◌, List, [], ◌∷◌, map, filter, length, get_or, None, Contains, refl, sym, ◌∙◌, ap, subst, inl, inr, true}
+use Rattle.std.proofs.Common.{◌≡◌, ◌⊎◌, ◌↔◌, ℕ, ◌<◌, ◌+◌, not, ◌&&◌, List, [], ◌∷◌, ◌++◌, map, filter, length, get_or, None, Contains, refl, sym, ◌∙◌, ap, subst, inl, inr, true, false}
 use Rattle.std.proofs.lemmas.List.Elements.{Contains-get_or, Contains-append_left, Contains-append_right, Contains-append_cases}
-use Rattle.std.proofs.lemmas.Bool.{and_parts, and_from}
+use Rattle.std.proofs.lemmas.Bool.{and_parts, and_from, true≢false, cases_Bool, not-true}
+use Rattle.std.proofs.lemmas.List.{get_or_default}
 use Rattle.std.specs.Cmp.{both_ways}
 use Rattle.wh_base.specs.declared.value.Value.{Value}
 use Rattle.wh_base.specs.Columns.{cut}
@@ -10,12 +11,15 @@ use Rattle.wh_base.specs.Value.{row_eq}
 use Rattle.wh_base.specs.ValueLaws.{row_eq-Decides}
 use Rattle.wh_base.proofs.InOrder.{Contains-in_order}
 use Rattle.wh_schema.specs.declared.piece.Piece.{Piece}
+use Rattle.wh_schema.specs.declared.constraint.Constraint.{Constraint}
+use Rattle.wh_schema.specs.declared.constraint.Constraint.TheVariants as constraint
+use Rattle.wh_schema.specs.declared.spec.Check.{Check}
 use Rattle.wh_schema.specs.declared.spec.Inclusion.{Inclusion}
 use Rattle.wh_schema.specs.declared.spec.Spec.{Spec}
-use Rattle.wh_schema.specs.Changes.{KeyIsQuiet, Changed}
-use Rattle.wh_schema.specs.Constraints.{Legal, shares_key, repeated_keys, missing_values, breaks, least_or, first_break, broken}
+use Rattle.wh_schema.specs.Changes.{KeyIsQuiet, Changed, IsCarried}
+use Rattle.wh_schema.specs.Constraints.{Legal, passes, shares_key, repeated_keys, missing_values, failing_keys, violations, constraints, breaks, least_or, first_break, broken}
 use Rattle.wh_schema.specs.Legality.{WellFormed}
-use Rattle.wh_schema.specs.Warehouse.{Row, State, left_value, right_value, columns_of, key_of, key_value, view_at, inclusion_at, view_table, sources_of, numbers, pieces, view_piece, inclusion_piece, piece_table, covers, is_cover, subsets, holds_all, joined_pieces, covered, complement}
+use Rattle.wh_schema.specs.Warehouse.{Row, State, left_value, right_value, columns_of, key_of, key_value, view_at, no_inclusion, inclusion_at, no_check, check_at, view_table, sources_of, numbers, pieces, view_piece, inclusion_piece, piece_table, covers, is_cover, subsets, holds_all, joined_pieces, covered, complement}
 use Rattle.wh_laws.proofs.Lists.{Contains-nil, Contains-here, Contains-there, Contains-cases, Contains-is, any_from, any_in, map_in, map_from, filter_in, filter_from, flat_in, flat_from, empty_list}
 use Rattle.wh_laws.proofs.Equality.{Name, decided, has_decides, row_is_in, is_false, is_not, is_not_in, shared_in}
 use Rattle.wh_laws.proofs.Joins.{cut-map, cut-same, cut-agree}
@@ -39,6 +43,12 @@ pub record Missing (spec : Spec) (s : State) (c : Inclusion) (v : Row) : Type 0 
   pub is_in : Contains (get_or s c.from []) row
   pub value : left_value spec c row ≡ v
   pub lacks : (y : Row) → Contains (get_or s c.to []) y → right_value spec c y ≡ v → ⊥
+
+pub record Failing (spec : Spec) (s : State) (c : Check) (v : Row) : Type 0 where
+  pub row : Row
+  pub is_in : Contains (get_or s c.relation []) row
+  pub key : key_value spec c.relation row ≡ v
+  pub fails : passes spec c row ≡ false
 
 module _ (spec : Spec) (s : State) where
   pub repeated_from : (i : ℕ) (v : Row) → Contains (repeated_keys spec s i) v → SharedKey spec i (get_or s i []) v
@@ -87,6 +97,57 @@ module _ (spec : Spec) (s : State) where
       (is_not_in (has rights (left_value spec c x)) (has_decides rights (left_value spec c x))
       (λ k. let b = map_from (right_value spec c) (get_or s c.to []) (left_value spec c x) k in lacks b.0 b.1 b.2))
 
+  pub failing_from : (c : Check) (v : Row) → Contains (failing_keys spec s c) v → Failing spec s c v
+  failing_from c v h =
+      let rows = get_or s c.relation [] in
+      let a = map_from (key_value spec c.relation) (filter (λ x. not (passes spec c x)) rows) v h in
+      let b = filter_from (λ x. not (passes spec c x)) rows a.0 a.1 in
+      record { row = a.0; is_in = b.0; key = a.2; fails = not-true (passes spec c a.0) b.1 }
+
+  pub failing_in : (c : Check) (x : Row) → Contains (get_or s c.relation []) x → passes spec c x ≡ false → Contains (failing_keys spec s c) (key_value spec c.relation x)
+  failing_in c x h f =
+      let rows = get_or s c.relation [] in
+      map_in (key_value spec c.relation) (filter (λ y. not (passes spec c y)) rows) x (filter_in (λ y. not (passes spec c y)) rows x h (ap not f))
+
+-- ---- the constraints of a specification
+
+-- its relation, inclusion or check is one of the specification's
+pub Numbers : Spec → Constraint → Type 0
+Numbers spec (constraint.Key i) = i < length spec.relations
+Numbers spec (constraint.Inclusion k) = k < length spec.inclusions
+Numbers spec (constraint.Check k) = k < length spec.checks
+
+module _ (spec : Spec) where
+  abbrev keys : List Constraint
+  keys = map (λ i. constraint.Key i) (numbers (length spec.relations))
+
+  abbrev inclusions : List Constraint
+  inclusions = map (λ k. constraint.Inclusion k) (numbers (length spec.inclusions))
+
+  abbrev checks : List Constraint
+  checks = map (λ k. constraint.Check k) (numbers (length spec.checks))
+
+  pub listed : (c : Constraint) → Contains (constraints spec) c → Numbers spec c
+  unfolding Numbers
+  listed c h =
+      elim (Contains-append_cases (keys ++ inclusions) checks c h) [
+        | inl a ↦
+            elim (Contains-append_cases keys inclusions c a) [
+              | inl k ↦ let r = map_from (λ i. constraint.Key i) (numbers (length spec.relations)) c k in subst (Numbers spec) r.2 (numbers_from (length spec.relations) r.0 r.1)
+              | inr k ↦ let r = map_from (λ i. constraint.Inclusion i) (numbers (length spec.inclusions)) c k in subst (Numbers spec) r.2 (numbers_from (length spec.inclusions) r.0 r.1)
+            ]
+        | inr k ↦ let r = map_from (λ i. constraint.Check i) (numbers (length spec.checks)) c k in subst (Numbers spec) r.2 (numbers_from (length spec.checks) r.0 r.1)
+      ]
+
+  pub is_listed : (c : Constraint) → Numbers spec c → Contains (constraints spec) c
+  unfolding Numbers
+  is_listed (constraint.Key i) l =
+      Contains-append_left (keys ++ inclusions) checks _ (Contains-append_left keys inclusions _ (map_in (λ j. constraint.Key j) (numbers (length spec.relations)) i (numbers_in (length spec.relations) i l)))
+  is_listed (constraint.Inclusion k) l =
+      Contains-append_left (keys ++ inclusions) checks _ (Contains-append_right keys inclusions _ (map_in (λ j. constraint.Inclusion j) (numbers (length spec.inclusions)) k (numbers_in (length spec.inclusions) k l)))
+  is_listed (constraint.Check k) l =
+      Contains-append_right (keys ++ inclusions) checks _ (map_in (λ j. constraint.Check j) (numbers (length spec.checks)) k (numbers_in (length spec.checks) k l))
+
 -- ---- a broken constraint's values are carried by rows that changed
 
 left_rows : (xs ys : List Row) (x : Row) → Contains xs x → (Contains ys x → ⊥) → Changed xs ys x
@@ -125,48 +186,93 @@ module _ (spec : Spec) (s t : State) (legal : Legal spec s) where
             inr (y.0, left_rows (get_or s c.to []) (get_or t c.to []) y.0 ((has_decides (get_or s c.to []) y.0).0 y.1) (λ m. a.lacks y.0 m e), e)
       ]
 
+  pub check_carried : (c : Check) → Contains spec.checks c → (v : Row) → has (failing_keys spec t c) v ≡ true
+      → (x : Row) × Changed (get_or s c.relation []) (get_or t c.relation []) x × (key_value spec c.relation x ≡ v)
+  check_carried c k v h =
+      let old = get_or s c.relation [] in
+      let a = failing_from spec t c v ((has_decides (failing_keys spec t c) v).0 h) in
+      let new : Contains old a.row → ⊥ = λ p. true≢false (sym (legal.checks c k a.row ((has_decides old a.row).1 p)) ∙ a.fails) in
+      (a.row, entered old (get_or t c.relation []) a.row new a.is_in, a.key)
+
+  pub violations_carried : (c : Constraint) → Numbers spec c → (v : Row) → has (violations spec t c) v ≡ true → IsCarried spec s t c v
+  unfolding Numbers
+  violations_carried (constraint.Key i) l = key_carried i l
+  violations_carried (constraint.Inclusion k) l = inclusion_carried (inclusion_at spec k) (Contains-get_or spec.inclusions k _ l)
+  violations_carried (constraint.Check k) l = check_carried (check_at spec k) (Contains-get_or spec.checks k _ l)
+
 -- ---- a state is legal exactly where it breaks nothing
+
+legal_violates_none : (spec : Spec) (s : State) → Legal spec s → (c : Constraint) → Numbers spec c → (v : Row) → Contains (violations spec s c) v → ⊥
+unfolding Numbers
+legal_violates_none spec s legal (constraint.Key i) l v h =
+    let a = repeated_from spec s i v h in
+    let old = get_or s i [] in
+    a.differ (legal.keys i l a.one a.other ((has_decides old a.one).1 a.one_in) ((has_decides old a.other).1 a.other_in) (a.one_key ∙ sym a.other_key))
+legal_violates_none spec s legal (constraint.Inclusion k) l v h =
+    let c = inclusion_at spec k in
+    let a = missing_from spec s c v h in
+    let y = legal.inclusions c (Contains-get_or spec.inclusions k _ l) a.row ((has_decides (get_or s c.from []) a.row).1 a.is_in) in
+    a.lacks y.0 ((has_decides (get_or s c.to []) y.0).0 y.1) (sym y.2 ∙ a.value)
+legal_violates_none spec s legal (constraint.Check k) l v h =
+    let c = check_at spec k in
+    let a = failing_from spec s c v h in
+    true≢false (sym (legal.checks c (Contains-get_or spec.checks k _ l) a.row ((has_decides (get_or s c.relation []) a.row).1 a.is_in)) ∙ a.fails)
 
 legal_breaks_none : (spec : Spec) (s : State) → Legal spec s → (rows : List Row) → Contains (breaks spec s) rows → rows ≡ []
 legal_breaks_none spec s legal rows h =
-    let P : List Row → Type 0 = λ z. z ≡ [] in
-    elim (Contains-append_cases (map (repeated_keys spec s) (numbers (length spec.relations))) (map (missing_values spec s) spec.inclusions) rows h) [
-      | inl a ↦
-          let b = map_from (repeated_keys spec s) (numbers (length spec.relations)) rows a in
-          subst P b.2 (empty_list _ (λ v k.
-          let c = repeated_from spec s b.0 v k in
-          let old = get_or s b.0 [] in
-          c.differ (legal.keys b.0 (numbers_from (length spec.relations) b.0 b.1) c.one c.other ((has_decides old c.one).1 c.one_in) ((has_decides old c.other).1 c.other_in) (c.one_key ∙ sym c.other_key))))
-      | inr a ↦
-          let b = map_from (missing_values spec s) spec.inclusions rows a in
-          subst P b.2 (empty_list _ (λ v k.
-          let c = missing_from spec s b.0 v k in
-          let y = legal.inclusions b.0 b.1 c.row ((has_decides (get_or s b.0.from []) c.row).1 c.is_in) in
-          c.lacks y.0 ((has_decides (get_or s b.0.to []) y.0).0 y.1) (sym y.2 ∙ c.value)))
-    ]
+    let r = map_from (violations spec s) (constraints spec) rows h in
+    sym r.2 ∙ empty_list (violations spec s r.0) (λ v k. legal_violates_none spec s legal r.0 (listed spec r.0 r.1) v k)
 
-none_breaks_legal : (spec : Spec) (s : State) → ((rows : List Row) → Contains (breaks spec s) rows → rows ≡ []) → Legal spec s
-none_breaks_legal spec s none = record {
-  keys = λ i l x y hx hy e.
-      let empty = none (repeated_keys spec s i)
-      (Contains-append_left (map (repeated_keys spec s) (numbers (length spec.relations))) _ (repeated_keys spec s i) (map_in (repeated_keys spec s) (numbers (length spec.relations)) i (numbers_in (length spec.relations) i l))) in
-      let P : List Row → Type 0 = λ z. Contains z (key_value spec i x) in
-      elim (decided (row_eq x y) (row_eq-Decides x y)) [
-        | inl q ↦ q
-        | inr n ↦ absurd (Contains-nil (key_value spec i x) (subst P empty (repeated_in spec s i x y ((has_decides (get_or s i []) x).0 hx) ((has_decides (get_or s i []) y).0 hy) n e)))
-      ];
-  inclusions = λ c k x h.
+module _ (spec : Spec) (s : State) (none : (rows : List Row) → Contains (breaks spec s) rows → rows ≡ []) where
+  -- no value breaks a constraint
+  none_violates : (c : Constraint) → Numbers spec c → (v : Row) → Contains (violations spec s c) v → ⊥
+  none_violates c l v h =
+      let P : List Row → Type 0 = λ z. Contains z v in
+      Contains-nil v (subst P (none (violations spec s c) (map_in (violations spec s) (constraints spec) c (is_listed spec c l))) h)
+
+  abbrev HasRight : Inclusion → Type 0
+  HasRight c = (x : Row) → has (get_or s c.from []) x ≡ true → (y : Row) × (has (get_or s c.to []) y ≡ true) × (left_value spec c x ≡ right_value spec c y)
+
+  has_right : (k : ℕ) → k < length spec.inclusions → HasRight (inclusion_at spec k)
+  unfolding Numbers
+  has_right k l x h =
+      let c = inclusion_at spec k in
       let rights = map (right_value spec c) (get_or s c.to []) in
-      let empty = none (missing_values spec s c)
-      (Contains-append_right (map (repeated_keys spec s) (numbers (length spec.relations))) _ (missing_values spec s c) (map_in (missing_values spec s) spec.inclusions c k)) in
-      let P : List Row → Type 0 = λ z. Contains z (left_value spec c x) in
       elim (row_is_in rights (left_value spec c x)) [
         | inl a ↦ let b = map_from (right_value spec c) (get_or s c.to []) (left_value spec c x) a in (b.0, (has_decides (get_or s c.to []) b.0).1 b.1, sym b.2)
         | inr n ↦
-            absurd (Contains-nil (left_value spec c x) (subst P empty (missing_in spec s c x ((has_decides (get_or s c.from []) x).0 h)
-            (λ y m e. n (Contains-is (right_value spec c y) (left_value spec c x) rights e (map_in (right_value spec c) (get_or s c.to []) y m))))))
-      ];
-}
+            absurd (none_violates (constraint.Inclusion k) l (left_value spec c x) (missing_in spec s c x ((has_decides (get_or s c.from []) x).0 h)
+            (λ y m e. n (Contains-is (right_value spec c y) (left_value spec c x) rights e (map_in (right_value spec c) (get_or s c.to []) y m)))))
+      ]
+
+  abbrev IsMet : Check → Type 0
+  IsMet c = (x : Row) → has (get_or s c.relation []) x ≡ true → passes spec c x ≡ true
+
+  is_met : (k : ℕ) → k < length spec.checks → IsMet (check_at spec k)
+  unfolding Numbers
+  is_met k l x h =
+      let c = check_at spec k in
+      elim (cases_Bool (passes spec c x)) [
+        | inl e ↦ e
+        | inr e ↦ absurd (none_violates (constraint.Check k) l (key_value spec c.relation x) (failing_in spec s c x ((has_decides (get_or s c.relation []) x).0 h) e))
+      ]
+
+  key_is_kept : (i : ℕ) → i < length spec.relations → (x y : Row) → has (get_or s i []) x ≡ true → has (get_or s i []) y ≡ true → key_value spec i x ≡ key_value spec i y → x ≡ y
+  unfolding Numbers
+  key_is_kept i l x y hx hy e =
+      elim (decided (row_eq x y) (row_eq-Decides x y)) [
+        | inl q ↦ q
+        | inr n ↦
+            absurd (none_violates (constraint.Key i) l (key_value spec i x)
+            (repeated_in spec s i x y ((has_decides (get_or s i []) x).0 hx) ((has_decides (get_or s i []) y).0 hy) n e))
+      ]
+
+  none_breaks_legal : Legal spec s
+  none_breaks_legal = record {
+    keys = key_is_kept;
+    inclusions = λ c h. subst HasRight (get_or_default spec.inclusions h.0 no_inclusion c h.1 ∙ h.2) (has_right h.0 h.1);
+    checks = λ c h. subst IsMet (get_or_default spec.checks h.0 no_check c h.1 ∙ h.2) (is_met h.0 h.1);
+  }
 
 pub empty_in_order : (rows : List Row) → in_order rows ≡ [] → rows ≡ []
 empty_in_order rows e = empty_list rows (λ x h. let P : List Row → Type 0 = λ z. Contains z x in Contains-nil x (subst P e (Contains-in_order rows x h)))

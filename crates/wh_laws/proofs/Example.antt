@@ -1,27 +1,31 @@
 -- The shop, computed.
-use Rattle.std.proofs.Common.{◌≡◌, ℕ, zero, suc, ◌<◌, Bool, true, nat_eq, List, [], ◌∷◌, ◌++◌, map, filter, length, get_or, take, pos, None, Contains, refl, sym, ◌∙◌, ap, subst, inl, inr, arith}
-use Rattle.std.specs.List.{IsDistinct, list_all}
+use Rattle.std.proofs.Common.{◌≡◌, ℕ, zero, suc, ◌<◌, Bool, true, false, not, ◌&&◌, ◌||◌, nat_eq, List, [], ◌∷◌, ◌++◌, map, filter, length, get_or, take, pos, Some, None, Contains, refl, sym, ◌∙◌, ap, subst, inl, inr, arith}
+use Rattle.std.specs.List.{IsDistinct, list_all, list_any}
 use Rattle.std.proofs.lemmas.Bool.{eqb-true}
 use Rattle.wh_base.specs.declared.cond.Cond.{Cond, fold-Cond, fold-roll-Cond}
 use Rattle.wh_base.specs.declared.cond.Cond.TheOpen.{Cond-F}
-use Rattle.wh_base.specs.declared.cond.Cond.TheVariants.{Always, rolls-Cmp}
+use Rattle.wh_base.specs.declared.cond.Cond.TheVariants.{Always, rolls-Cmp, outs-Cmp}
 use Rattle.wh_base.specs.declared.cond.Op.TheVariants.{Ge}
 use Rattle.wh_base.specs.declared.cond.Operand.TheVariants as operand
 use Rattle.wh_base.specs.declared.value.Value.TheVariants.{Int}
-use Rattle.wh_base.specs.Columns.{name_eq, value_of}
+use Rattle.wh_base.specs.Columns.{name_eq, all_in, value_of}
 use Rattle.wh_base.specs.Cond.{holds, holds_at, satisfies}
 use Rattle.wh_base.specs.RowSet.{has, in_order}
 use Rattle.wh_base.specs.Tables.{Table, project, join_all}
 use Rattle.wh_base.specs.Value.{value_cmp}
 use Rattle.wh_schema.specs.declared.spec.Spec.{Spec}
-use Rattle.wh_schema.specs.Constraints.{broken}
+use Rattle.wh_schema.specs.declared.spec.View.{View}
+use Rattle.wh_schema.specs.Constraints.{repeated_keys, missing_values, first_break, broken}
+use Rattle.wh_schema.specs.EmptyMark.{is_always, same_level, same_cond, conjuncts, is_checked, joined_on, always_empty}
 use Rattle.wh_schema.specs.Legality.{WellFormed, InclusionFits, ViewFits, LeadsTo, along}
-use Rattle.wh_schema.specs.Warehouse.{Row, State, no_inclusion, columns_of, key_of, view_at, table_of, view_table, numbers, complement, stored}
-use Rattle.wh_laws.specs.Example.{clerk, age, item, by_a_clerk, sold, shop, grown, state, tables, tables_of_grown}
+use Rattle.wh_schema.specs.Reconstruction.{is_taken}
+use Rattle.wh_schema.specs.Warehouse.{Row, State, no_inclusion, columns_of, key_of, key_value, view_at, table_of, view_table, numbers, complement, stored}
+use Rattle.wh_laws.specs.Example.{clerk, age, item, by_a_clerk, sold, shop, grown, checked_shop, mary, state, tables, tables_of_grown}
 use Rattle.wh_laws.specs.Laws.{LegalState}
 use Rattle.wh_laws.proofs.Lists.{Contains-nil, Contains-here, Contains-there, Contains-cases, Contains-is, every_from}
 use Rattle.wh_laws.proofs.Equality.{Name, all_in_from, has_decides}
 use Rattle.wh_laws.proofs.Changes.{broken_none}
+use Rattle.wh_laws.proofs.Conditions.{conjuncts_always, conjuncts_cmp, same_cmp}
 use Rattle.wh_laws.proofs.Lossless.{always_holds}
 
 -- ---- the stored tables, by tests in place of the conditions
@@ -79,6 +83,47 @@ pub its_tables_of_grown : stored (shop grown) state ≡ tables_of_grown
 unfolding is_grown
 its_tables_of_grown = stored_is (shop grown) state is_grown grown_passes
 
+-- ---- the marks, by the conjuncts of the view's condition
+
+mark_by : Spec → View → List Cond → Bool
+mark_by spec v cs =
+    list_any
+    (λ (w : View). (list_all (λ c. is_always c || is_checked spec w.relations c) cs && is_taken w.relations 1)
+    && (all_in w.head (columns_of spec 1) && list_all (is_taken (joined_on spec w.relations 1)) w.relations))
+    (v ∷ [])
+
+grown_alone : conjuncts grown ≡ grown ∷ []
+grown_alone = conjuncts_cmp (operand.Attr age) Ge (operand.Int (pos 25))
+
+grown_is_checked : same_cond grown grown ≡ true
+grown_is_checked = same_cmp (operand.Attr age) Ge (operand.Int (pos 25)) grown ∙ ap (same_level (Cond-F.Cmp (operand.Attr age) Ge (operand.Int (pos 25)))) (outs-Cmp (operand.Attr age) Ge (operand.Int (pos 25)))
+
+pub clerks_have_no_mark : always_empty (shop Always) 0 ≡ false
+clerks_have_no_mark = ap (λ b. (b || false)) (ap (λ cs. (list_all (λ c. is_always c || is_checked (shop Always) (1 ∷ 0 ∷ []) c) cs && true) && false) conjuncts_always)
+
+pub sales_have_the_mark : always_empty (shop Always) 1 ≡ true
+unfolding mark_by
+sales_have_the_mark = ap (mark_by (shop Always) (sold Always)) conjuncts_always
+
+pub grown_sales_have_no_mark : always_empty (shop grown) 1 ≡ false
+unfolding mark_by
+grown_sales_have_no_mark = ap (mark_by (shop grown) (sold grown)) grown_alone
+
+pub checked_sales_have_the_mark : always_empty checked_shop 1 ≡ true
+unfolding mark_by
+checked_sales_have_the_mark = ap (mark_by checked_shop (sold grown)) grown_alone ∙ ap (λ b. ((((b || false) && true) && true) && true) || false) grown_is_checked
+
+-- ---- what a young clerk breaks
+
+breaks_by : (Row → Bool) → List (List Row)
+breaks_by test =
+    repeated_keys checked_shop state 0 ∷ repeated_keys checked_shop state 1 ∷ missing_values checked_shop state by_a_clerk
+    ∷ map (key_value checked_shop 0) (filter (λ x. not (test x)) (get_or state 0 [])) ∷ []
+
+pub a_young_clerk_breaks : broken checked_shop state ≡ Some (record { constraint = 4; value = mary ∷ [] })
+unfolding breaks_by is_grown
+a_young_clerk_breaks = ap (λ test. first_break 1 (breaks_by test)) (λ i x. grown_holds (clerk ∷ age ∷ []) x i)
+
 -- ---- the state is a legal one of specifications that obey the rules
 
 two : (P : ℕ → Type 0) → P 0 → P 1 → (i : ℕ) → i < 2 → P i
@@ -124,6 +169,7 @@ module _ (c : Cond) where
     some_attribute = two (λ i. (n : Name) × Contains (columns_of (shop c) i) n) (clerk, Contains-here clerk (age ∷ [])) (item, Contains-here item (clerk ∷ []));
     key = two (λ i. (n : Name) → Contains (key_of (shop c) i) n → Contains (columns_of (shop c) i) n) (all_in_from (clerk ∷ age ∷ []) (clerk ∷ []) refl) (λ n h. h);
     inclusions = only (InclusionFits (shop c)) by_a_clerk inclusion_fits;
+    checks = λ k h. absurd (Contains-nil k h);
     views = only (ViewFits (shop c)) (sold c) view_fits;
     acyclic = λ k l p.
         let e : k ≡ 0 = omega arith in

@@ -7,25 +7,27 @@ use Rattle.std.proofs.lemmas.List.Elements.{Contains-append_cases}
 use Rattle.std.proofs.Math.Seq.{get_or-append_seam, take-append_seam}
 use Rattle.wh_base.specs.declared.value.Attr.{Attr}
 use Rattle.wh_base.specs.Columns.{name_eq, names_of}
-use Rattle.wh_base.specs.Cond.{faults}
-use Rattle.wh_schema.specs.declared.fault.SpecCause.TheVariants.{BadInclusion}
+use Rattle.wh_base.specs.Cond.{faults, IsTyped}
+use Rattle.wh_schema.specs.declared.fault.SpecCause.TheVariants.{BadInclusion, BadCheck}
+use Rattle.wh_schema.specs.declared.raw.RawCheck.{RawCheck}
 use Rattle.wh_schema.specs.declared.raw.RawInclusion.{RawInclusion}
 use Rattle.wh_schema.specs.declared.raw.RawRelation.{RawRelation}
 use Rattle.wh_schema.specs.declared.raw.RawStatement.{RawStatement}
 use Rattle.wh_schema.specs.declared.raw.RawStatement.TheVariants as statement
 use Rattle.wh_schema.specs.declared.raw.RawView.{RawView}
+use Rattle.wh_schema.specs.declared.spec.Check.{Check}
 use Rattle.wh_schema.specs.declared.spec.Inclusion.{Inclusion}
 use Rattle.wh_schema.specs.declared.spec.Relation.{Relation}
 use Rattle.wh_schema.specs.declared.spec.Spec.{Spec}
 use Rattle.wh_schema.specs.declared.spec.View.{View}
 use Rattle.wh_schema.specs.Cycles.{closed_cycle}
-use Rattle.wh_schema.specs.Legality.{LeadsTo, IsAcyclic, InclusionFits, ViewFits, WellFormed}
+use Rattle.wh_schema.specs.Legality.{LeadsTo, IsAcyclic, InclusionFits, CheckFits, ViewFits, WellFormed}
 use Rattle.wh_schema.specs.Rules
-use Rattle.wh_schema.specs.Rules.{broken_by, broken_if, relation_names, number_of, members, member_attrs, head_or, written_head, relation_of, inclusion_of, view_of, added, attrs_of, kind_in, same_kind, same_kinds, cyclic, cyclic_if, rule_faults}
+use Rattle.wh_schema.specs.Rules.{broken_by, broken_if, relation_names, number_of, members, member_attrs, head_or, written_head, relation_of, inclusion_of, check_of, view_of, added, attrs_of, kind_in, same_kind, same_kinds, cyclic, cyclic_if, rule_faults}
 use Rattle.wh_schema.specs.Warehouse.{no_relation, no_inclusion, relation_at}
 use Rattle.wh_schema.proofs.Accepted.{no_left, no_right, not_broken}
 use Rattle.wh_laws.specs.Acceptance.{HasParts}
-use Rattle.wh_laws.proofs.Acceptance.{not_found, all_known, none_again, place_below, joined_from}
+use Rattle.wh_laws.proofs.Acceptance.{not_found, none_wrong, all_known, none_again, place_below, joined_from}
 use Rattle.wh_laws.proofs.Equality.{Name}
 use Rattle.wh_laws.proofs.Lists.{Contains-nil, Contains-here, Contains-there, Contains-cases, map_from}
 use Rattle.wh_laws.proofs.Reach.{no_chain}
@@ -65,6 +67,14 @@ module _ (spec : Spec) (r : RawRelation) where
         distinct = f.distinct;
       }
 
+  check_stays : (c : Check) → CheckFits spec c → CheckFits more c
+  check_stays c f =
+      let longer = length_push spec.relations (relation_of r) in
+      record {
+        relation = let l = f.relation in omega arith;
+        typed = subst (λ x. IsTyped c.cond x.attrs) (sym (relation_stays c.relation f.relation)) f.typed;
+      }
+
   view_stays : (v : View) → ViewFits spec v → ViewFits more v
   view_stays v f =
       let longer = length_push spec.relations (relation_of r) in
@@ -86,6 +96,7 @@ module _ (spec : Spec) (r : RawRelation) where
         some_attribute = each_relation (λ x. (n : Name) × Contains (names_of x.attrs) n) wf.some_attribute (first_name r.attrs some);
         key = each_relation (λ x. (n : Name) → Contains x.key n → Contains (names_of x.attrs) n) wf.key known;
         inclusions = λ c h. inclusion_stays c (wf.inclusions c h);
+        checks = λ c h. check_stays c (wf.checks c h);
         views = λ v h. view_stays v (wf.views v h);
         acyclic = wf.acyclic;
       }
@@ -195,8 +206,49 @@ module _ (spec : Spec) (c : RawInclusion) (e : rule_faults spec (statement.Inclu
                     | inr z ↦ absurd (Contains-nil x z)
                   ]
             ];
+        checks = λ k h. let f = wf.checks k h in record { relation = f.relation; typed = f.typed };
         views = λ v h. let f = wf.views v h in record { member = f.member; members = f.members; head = f.head };
         acyclic = acyclic_on wf;
+      }
+
+-- ---- a further check
+
+module _ (spec : Spec) (c : RawCheck) (e : rule_faults spec (statement.Check c) ≡ []) where
+  abbrev checked_attrs : List Attr
+  checked_attrs = attrs_of spec c.relation
+
+  name_rules : Rules.check_name_faults spec c ≡ []
+  name_rules = no_left _ (Rules.check_shape_faults checked_attrs c) e
+
+  check_fits : CheckFits spec (check_of spec c)
+  check_fits =
+      let unknown = no_right _ (Rules.unknown_checked spec c) name_rules in
+      let shape = no_right (Rules.check_name_faults spec c) _ e in
+      record {
+        relation =
+            known_number spec c.relation
+            (all_known (relation_names spec) (c.relation ∷ []) (not_found _ _ unknown) c.relation (Contains-here c.relation []));
+        typed = none_wrong (faults c.cond checked_attrs) BadCheck (no_left _ (Rules.too_many_nodes c.cond) shape);
+      }
+
+  pub with_check : WellFormed spec → WellFormed (added spec (statement.Check c))
+  with_check wf =
+      let k = check_of spec c in
+      let on : (x : Check) → CheckFits spec x → CheckFits (added spec (statement.Check c)) x = λ x f. record { relation = f.relation; typed = f.typed } in
+      record {
+        distinct = wf.distinct;
+        some_attribute = wf.some_attribute;
+        key = wf.key;
+        inclusions = λ x h. let f = wf.inclusions x h in
+            record { left = f.left; right = f.right; left_columns = f.left_columns; right_columns = f.right_columns; width = f.width; distinct = f.distinct };
+        checks = λ x h.
+            elim (Contains-append_cases spec.checks (k ∷ []) x h) [
+              | inl q ↦ on x (wf.checks x q)
+              | inr q ↦
+                  elim (Contains-cases k x [] q) [ inl i ↦ subst (CheckFits (added spec (statement.Check c))) i (on k check_fits) | inr z ↦ absurd (Contains-nil x z) ]
+            ];
+        views = λ v h. let f = wf.views v h in record { member = f.member; members = f.members; head = f.head };
+        acyclic = wf.acyclic;
       }
 
 -- ---- a further view
@@ -247,6 +299,7 @@ module _ (spec : Spec) (v : RawView) (e : rule_faults spec (statement.View v) �
         key = wf.key;
         inclusions = λ x h. let f = wf.inclusions x h in
             record { left = f.left; right = f.right; left_columns = f.left_columns; right_columns = f.right_columns; width = f.width; distinct = f.distinct };
+        checks = λ k h. let f = wf.checks k h in record { relation = f.relation; typed = f.typed };
         views = λ x h.
             elim (Contains-append_cases spec.views (w ∷ []) x h) [
               | inl k ↦ on x (wf.views x k)
@@ -262,4 +315,5 @@ module _ (spec : Spec) (v : RawView) (e : rule_faults spec (statement.View v) �
 pub added_well : (spec : Spec) (s : RawStatement) → rule_faults spec s ≡ [] → HasParts s → WellFormed spec → WellFormed (added spec s)
 added_well spec (statement.Relation r) e some wf = with_relation spec r e some wf
 added_well spec (statement.Inclusion c) e some wf = with_inclusion spec c e wf
+added_well spec (statement.Check c) e some wf = with_check spec c e wf
 added_well spec (statement.View v) e some wf = with_view spec v e some wf

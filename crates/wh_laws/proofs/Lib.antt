@@ -3,6 +3,7 @@ pub mod Accepting
 pub mod Acyclic
 pub mod Broken
 pub mod Changes
+pub mod Conditions
 pub mod Covered
 pub mod Equality
 pub mod Example

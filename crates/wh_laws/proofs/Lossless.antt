@@ -1,10 +1,10 @@
 -- A view that loses no row of a relation: the relation's complement is empty in every legal state.
-use Rattle.std.proofs.Common.{◌≡◌, ℕ, ◌<◌, Bool, true, cond, not, nat_eq, ◌&&◌, List, [], ◌∷◌, ◌++◌, map, length, get_or, Contains, sym, ◌∙◌, ap, subst, inl, inr}
+use Rattle.std.proofs.Common.{◌≡◌, ℕ, ◌<◌, Bool, true, cond, not, nat_eq, ◌&&◌, ◌||◌, List, [], ◌∷◌, ◌++◌, map, length, get_or, Contains, sym, ◌∙◌, ap, subst, inl, inr}
 use Rattle.std.specs.List.{flat_map, list_any, list_all}
 use Rattle.std.specs.Cmp.Lexicographic.{pointwise, pointwise_decides}
 use Rattle.std.proofs.lemmas.List.{get_or_default}
 use Rattle.std.proofs.lemmas.List.Elements.{Contains-append_left, Contains-append_cases}
-use Rattle.std.proofs.lemmas.Bool.{cond-true, cond-false, and_parts, true≢false, eqb-true}
+use Rattle.std.proofs.lemmas.Bool.{cond-true, cond-false, and_parts, cases_Bool, true≢false, eqb-true}
 use Rattle.wh_base.specs.declared.value.Value.{Value}
 use Rattle.wh_schema.specs.declared.spec.Spec.{Spec}
 use Rattle.wh_schema.specs.declared.spec.View.{View}
@@ -15,21 +15,23 @@ use Rattle.wh_base.specs.declared.cond.Cond.TheOpen.{Cond-F}
 use Rattle.wh_base.specs.declared.cond.Cond.TheVariants.{Always, rolls-Always}
 use Rattle.wh_base.specs.Columns.{name_eq, is_in, all_in, value_of, cut}
 use Rattle.wh_base.specs.Cond.{holds, holds_at}
+use Rattle.wh_base.specs.Tables.{join_all}
 use Rattle.wh_schema.specs.Constraints.{Legal}
-use Rattle.wh_schema.specs.EmptyMark.{is_always, same_names, shared_with_taken, leads_into, is_joined_on, joined_on, is_lossless, always_empty}
+use Rattle.wh_schema.specs.EmptyMark.{is_always, same_cond, is_checked, is_free, same_names, shared_with_taken, leads_into, is_joined_on, joined_on, is_lossless, always_empty}
 use Rattle.wh_schema.specs.Legality.{WellFormed, IsState}
 use Rattle.wh_schema.specs.Reconstruction.{take_next, is_taken}
-use Rattle.wh_schema.specs.Warehouse.{Row, State, sources_of, columns_of, view_at, view_table, pieces, view_piece, piece_table, holds_all, joined_pieces, covered, complement}
+use Rattle.wh_schema.specs.Warehouse.{Row, State, sources_of, relation_at, columns_of, table_of, view_at, view_table, pieces, view_piece, piece_table, holds_all, joined_pieces, covered, complement}
 use Rattle.wh_laws.proofs.Lists.{Contains-nil, Contains-here, Contains-cases, Contains-is, any_from, every_from, map_in, map_same, flat_in}
 use Rattle.wh_laws.proofs.Equality.{Name, has_decides, name_eq_decides, is_in_decides, name_is_in, is_false, shared_in, shared_from, all_in_from}
-use Rattle.wh_laws.proofs.Joins.{Fits, cut-map, cut-agree, fits-values}
+use Rattle.wh_laws.proofs.Conditions.{cond_same, conjuncts_hold, holds_stays}
+use Rattle.wh_laws.proofs.Joins.{Fits, column_in, cut-map, cut-agree, fits-values}
 use Rattle.wh_laws.proofs.Views.{state_fits, view_in}
 use Rattle.wh_laws.proofs.Pieces.{view_piece_in}
 use Rattle.wh_laws.proofs.Subsets.{subsets_one}
 use Rattle.wh_laws.proofs.Covered.{holds_in, pieces_in, joined_is_covered, complement_from}
 use Rattle.wh_laws.proofs.Order.{taken_decides, step, iterate_keeps}
 
--- ---- no condition
+-- ---- a condition that asks for no more than checks do
 
 pub always_holds : (columns : List Name) (r : Row) → holds Always columns r ≡ true
 always_holds columns r = ap (fold-Cond Bool (holds_at columns r)) (sym rolls-Always) ∙ fold-roll-Cond Bool (holds_at columns r) Cond-F.Always
@@ -37,6 +39,36 @@ always_holds columns r = ap (fold-Cond Bool (holds_at columns r)) (sym rolls-Alw
 pub always_true : (c : Cond) (columns : List Name) (r : Row) → is_always c ≡ true → holds c columns r ≡ true
 always_true Always columns r e = always_holds columns r
 always_true _ columns r e = absurd (true≢false (sym e))
+
+module _ (spec : Spec) (s : State) (wf : WellFormed spec) (legal : Legal spec s) (v : View) (f : Name → Value)
+    (parts : (i : ℕ) → Contains v.relations i → Contains (get_or s i []) (map f (columns_of spec i))) where
+  abbrev joined : List Name
+  joined = (join_all (map (table_of spec s) v.relations)).columns
+
+  checked_holds : (c : Cond) → is_checked spec v.relations c ≡ true → holds c joined (map f joined) ≡ true
+  checked_holds c e =
+      let a = any_from (λ k. is_taken v.relations k.relation && same_cond c k.cond) spec.checks e in
+      let k = a.0 in
+      let b = and_parts (is_taken v.relations k.relation) (same_cond c k.cond) a.2 in
+      let member = (taken_decides v.relations k.relation).0 b.0 in
+      let columns = columns_of spec k.relation in
+      let more : (n : Name) → Contains columns n → Contains joined n =
+      λ n h. column_in (map (table_of spec s) v.relations) (table_of spec s k.relation) n (map_in (table_of spec s) v.relations k.relation member) h in
+      let met = legal.checks k a.1 (map f columns) ((has_decides (get_or s k.relation []) (map f columns)).1 (parts k.relation member)) in
+      ap (λ d. holds d joined (map f joined)) (cond_same c k.cond b.1)
+      ∙ holds_stays (relation_at spec k.relation).attrs joined more f k.cond (wf.checks k a.1).typed
+      ∙ met
+
+  conjunct_holds : (c : Cond) → (is_always c || is_checked spec v.relations c) ≡ true → holds c joined (map f joined) ≡ true
+  conjunct_holds c e =
+      elim (cases_Bool (is_always c)) [
+        | inl t ↦ always_true c joined (map f joined) t
+        | inr n ↦ checked_holds c (sym (ap (λ b. b || is_checked spec v.relations c) n) ∙ e)
+      ]
+
+  -- the condition of a free view is true of each joined row
+  free_holds : is_free spec v ≡ true → holds v.cond joined (map f joined) ≡ true
+  free_holds e = conjuncts_hold (λ c. is_always c || is_checked spec v.relations c) joined (map f joined) conjunct_holds v.cond e
 
 -- ---- one more relation
 
@@ -151,18 +183,18 @@ module _ (spec : Spec) (s : State) (wf : WellFormed spec) (st : IsState spec s) 
 
 -- what the test of the mark tells
 pub record Lossless (spec : Spec) (r : ℕ) (v : View) : Type 0 where
-  pub no_condition : is_always v.cond ≡ true
+  pub free : is_free spec v ≡ true
   pub member : Contains v.relations r
   pub keeps : (n : Name) → Contains (columns_of spec r) n → Contains v.head n
   pub taken : (i : ℕ) → Contains v.relations i → Contains (joined_on spec v.relations r) i
 
 lossless_from : (spec : Spec) (r : ℕ) (v : View) → is_lossless spec r v ≡ true → Lossless spec r v
 lossless_from spec r v e =
-    let a = and_parts (is_always v.cond && is_taken v.relations r) (all_in v.head (columns_of spec r) && list_all (is_taken (joined_on spec v.relations r)) v.relations) e in
-    let b = and_parts (is_always v.cond) (is_taken v.relations r) a.0 in
+    let a = and_parts (is_free spec v && is_taken v.relations r) (all_in v.head (columns_of spec r) && list_all (is_taken (joined_on spec v.relations r)) v.relations) e in
+    let b = and_parts (is_free spec v) (is_taken v.relations r) a.0 in
     let c = and_parts (all_in v.head (columns_of spec r)) (list_all (is_taken (joined_on spec v.relations r)) v.relations) a.1 in
     record {
-      no_condition = b.0;
+      free = b.0;
       member = (taken_decides v.relations r).0 b.1;
       keeps = all_in_from v.head (columns_of spec r) c.0;
       taken = λ i k. (taken_decides (joined_on spec v.relations r) i).0 (every_from (is_taken (joined_on spec v.relations r)) v.relations c.1 i k);
@@ -177,7 +209,7 @@ module _ (spec : Spec) (s : State) (wf : WellFormed spec) (st : IsState spec s) 
       let names = (view_piece spec r j).attrs in
       Contains-is (cut head names (map f head)) (map f names) (map (cut head names) (view_table spec s j).rows)
       (cut-map f head names (λ n k. (shared_from head (columns_of spec r) n k).0))
-      (map_in (cut head names) (view_table spec s j).rows (map f head) (view_in spec s wf j m f parts (always_true (view_at spec j).cond _ _ a.no_condition)))
+      (map_in (cut head names) (view_table spec s j).rows (map f head) (view_in spec s wf j m f parts (free_holds spec s wf legal (view_at spec j) f parts a.free)))
 
   lossless_covered : (j : ℕ) → j < length spec.views → Lossless spec r (view_at spec j) → (x : Row) → Contains (get_or s r []) x → Contains (covered spec (sources_of spec s) r) x
   lossless_covered j m a x h =

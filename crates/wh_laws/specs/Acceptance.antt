@@ -15,6 +15,7 @@ use Rattle.wh_schema.specs.Rules.{checked, declared, IsWithinLimits}
 abbrev pub HasParts : RawStatement → Type 0
 HasParts (statement.Relation r) = r.attrs ≢ []
 HasParts (statement.Inclusion c) = Unit {0}
+HasParts (statement.Check c) = Unit {0}
 HasParts (statement.View v) = v.relations ≢ []
 
 -- The specification of accepted statements is what they declare. It is well formed, so no inclusions form a cycle, and within the limits.

@@ -8,6 +8,7 @@ use Rattle.wh_base.specs.declared.value.Kind.TheVariants as kind
 use Rattle.wh_base.specs.declared.value.Value.{Value}
 use Rattle.wh_base.specs.declared.value.Value.TheVariants.{Int, Text}
 use Rattle.wh_schema.specs.declared.piece.PieceSource.TheVariants as source
+use Rattle.wh_schema.specs.declared.spec.Check.{Check}
 use Rattle.wh_schema.specs.declared.spec.Inclusion.{Inclusion}
 use Rattle.wh_schema.specs.declared.spec.Relation.{Relation}
 use Rattle.wh_schema.specs.declared.spec.Spec.{Spec}
@@ -41,11 +42,19 @@ sold c = record { name = []; relations = 1 ∷ 0 ∷ []; cond = c; head = item �
 
 -- the shop whose view has that condition
 abbrev pub shop : Cond → Spec
-shop c = record { relations = clerks ∷ sales ∷ []; inclusions = by_a_clerk ∷ []; views = sold c ∷ [] }
+shop c = record { relations = clerks ∷ sales ∷ []; inclusions = by_a_clerk ∷ []; checks = []; views = sold c ∷ [] }
 
 -- of age 25 at least
 abbrev pub grown : Cond
 grown = Cmp (operand.Attr age) Ge (operand.Int (pos 25))
+
+-- each clerk is grown
+abbrev pub clerks_are_grown : Check
+clerks_are_grown = record { name = []; relation = 0; cond = grown }
+
+-- the shop of grown clerks, whose view asks for the age
+abbrev pub checked_shop : Spec
+checked_shop = record { relations = clerks ∷ sales ∷ []; inclusions = by_a_clerk ∷ []; checks = clerks_are_grown ∷ []; views = sold grown ∷ [] }
 
 abbrev pub mary : Value
 mary = Text (10 ∷ [])
@@ -97,12 +106,14 @@ ShopHasCovers =
     (pieces (shop Always) 0 ≡ record { source = source.View 0; attrs = clerk ∷ age ∷ [] } ∷ record { source = source.Inclusion 0; attrs = clerk ∷ [] } ∷ [])
     × (covers (columns_of (shop Always) 0) (pieces (shop Always) 0) ≡ (record { source = source.View 0; attrs = clerk ∷ age ∷ [] } ∷ []) ∷ [])
 
--- only a view without a condition loses no sale, and it loses clerks
+-- only a view without a condition, or with that of a check, loses no sale, and it loses clerks
 abbrev pub ShopHasMarks : Type 0
-ShopHasMarks = (always_empty (shop Always) 0 ≡ false) × (always_empty (shop Always) 1 ≡ true) × (always_empty (shop grown) 1 ≡ false)
+ShopHasMarks =
+    (always_empty (shop Always) 0 ≡ false) × (always_empty (shop Always) 1 ≡ true) × (always_empty (shop grown) 1 ≡ false) × (always_empty checked_shop 1 ≡ true)
 
--- sales by nobody break the third constraint, and the first key breaks where a clerk has two ages
+-- sales by nobody break the third constraint, the first key breaks where a clerk has two ages, and a young clerk breaks the check
 abbrev pub ShopIsBroken : Type 0
 ShopIsBroken =
     (broken (shop Always) ([] ∷ ((radio ∷ john ∷ []) ∷ (camera ∷ mary ∷ []) ∷ []) ∷ []) ≡ Some (record { constraint = 3; value = mary ∷ [] }))
     × (broken (shop Always) (((john ∷ Int (pos 25) ∷ []) ∷ (john ∷ Int (pos 26) ∷ []) ∷ []) ∷ [] ∷ []) ≡ Some (record { constraint = 1; value = john ∷ [] }))
+    × (broken checked_shop state ≡ Some (record { constraint = 4; value = mary ∷ [] }))

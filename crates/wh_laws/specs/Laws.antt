@@ -5,15 +5,15 @@ use Rattle.wh_base.specs.Columns.{cut}
 use Rattle.wh_base.specs.RowSet.{has, SameRows, IsAscending}
 use Rattle.wh_base.specs.Value.{row_cmp, row_eq}
 use Rattle.wh_schema.specs.declared.broken.Broken.{Broken}
+use Rattle.wh_schema.specs.declared.constraint.Constraint.{Constraint}
 use Rattle.wh_schema.specs.declared.piece.Piece.{Piece}
-use Rattle.wh_schema.specs.declared.spec.Inclusion.{Inclusion}
 use Rattle.wh_schema.specs.declared.spec.Spec.{Spec}
-use Rattle.wh_schema.specs.Changes.{Line, apply_line, Changed, KeyIsQuiet}
-use Rattle.wh_schema.specs.Constraints.{Legal, repeated_keys, missing_values, breaks, broken}
+use Rattle.wh_schema.specs.Changes.{Line, apply_line, IsCarried, KeyIsQuiet}
+use Rattle.wh_schema.specs.Constraints.{Legal, violations, constraints, constraint_at, breaks, broken}
 use Rattle.wh_schema.specs.EmptyMark.{always_empty}
 use Rattle.wh_schema.specs.Legality.{WellFormed, IsState}
 use Rattle.wh_schema.specs.Reconstruction.{reconstructed, SameTables}
-use Rattle.wh_schema.specs.Warehouse.{Row, State, inclusion_at, columns_of, key_value, left_value, right_value, SameState, sources_of, pieces, piece_table, subsets, holds_all, covers, pieces_at, cover_numbers, joined_pieces, covered, complement, stored}
+use Rattle.wh_schema.specs.Warehouse.{Row, State, columns_of, key_value, SameState, sources_of, pieces, piece_table, subsets, holds_all, covers, pieces_at, cover_numbers, joined_pieces, covered, complement, stored}
 
 -- a legal state of a specification that obeys the rules
 pub record LegalState (spec : Spec) (s : State) : Type 0 where
@@ -61,17 +61,11 @@ MarkedIsEmpty =
     (spec : Spec) (s : State) → LegalState spec s → (r : ℕ) → r < length spec.relations → always_empty spec r ≡ true
     → complement spec (sources_of spec s) r ≡ []
 
--- where a legal state is changed, the values that break a key or an inclusion are carried by rows that left or entered
-abbrev pub BrokenKeysAreCarried : Type 0
-BrokenKeysAreCarried =
-    (spec : Spec) (s t : State) → Legal spec s → (i : ℕ) → i < length spec.relations → (v : Row) → has (repeated_keys spec t i) v ≡ true
-    → (x : Row) × Changed (get_or s i []) (get_or t i []) x × (key_value spec i x ≡ v)
-
-abbrev pub BrokenInclusionsAreCarried : Type 0
-BrokenInclusionsAreCarried =
-    (spec : Spec) (s t : State) → Legal spec s → (c : Inclusion) → Contains spec.inclusions c → (v : Row) → has (missing_values spec t c) v ≡ true
-    → ((x : Row) × Changed (get_or s c.from []) (get_or t c.from []) x × (left_value spec c x ≡ v))
-    ⊎ ((y : Row) × Changed (get_or s c.to []) (get_or t c.to []) y × (right_value spec c y ≡ v))
+-- where a legal state is changed, a value that breaks a constraint is carried by a row that left or entered
+abbrev pub ViolationsAreCarried : Type 0
+ViolationsAreCarried =
+    (spec : Spec) (s t : State) → Legal spec s → (c : Constraint) → Contains (constraints spec) c → (v : Row) → has (violations spec t c) v ≡ true
+    → IsCarried spec s t c v
 
 -- no constraint is broken exactly where the state is legal
 abbrev pub LegalBreaksNothing : Type 0
@@ -90,25 +84,15 @@ pub record IsFirstBreak (n : ℕ) (lists : List (List Row)) (b : Broken) : Type 
 abbrev pub BrokenIsFirst : Type 0
 BrokenIsFirst = (spec : Spec) (s : State) (b : Broken) → broken spec s ≡ Some b → IsFirstBreak 1 (breaks spec s) b
 
--- where a legal state is changed, what breaks a constraint of the new state is carried by a row that left or entered: a key's value
-pub record KeyIsCarried (spec : Spec) (s t : State) (b : Broken) : Type 0 where
-  pub relation : ℕ
-  pub within : relation < length spec.relations
-  pub number : b.constraint ≡ 1 + relation
-  pub carried : (x : Row) × Changed (get_or s relation []) (get_or t relation []) x × (key_value spec relation x ≡ b.value)
+-- the constraint with the number of a broken one, whose value a row that left or entered carries
+pub record BreakIsCarried (spec : Spec) (s t : State) (b : Broken) : Type 0 where
+  pub constraint : Constraint
+  pub number : constraint_at spec b.constraint ≡ Some constraint
+  pub carried : IsCarried spec s t constraint b.value
 
--- or an inclusion's
-pub record InclusionIsCarried (spec : Spec) (s t : State) (b : Broken) : Type 0 where
-  pub inclusion : ℕ
-  pub within : inclusion < length spec.inclusions
-  pub number : b.constraint ≡ 1 + length spec.relations + inclusion
-  pub carried : let c = inclusion_at spec inclusion in
-      ((x : Row) × Changed (get_or s c.from []) (get_or t c.from []) x × (left_value spec c x ≡ b.value))
-      ⊎ ((y : Row) × Changed (get_or s c.to []) (get_or t c.to []) y × (right_value spec c y ≡ b.value))
-
+-- where a legal state is changed, so is the value of the first broken constraint
 abbrev pub BrokenIsCarried : Type 0
-BrokenIsCarried =
-    (spec : Spec) (s t : State) → Legal spec s → (b : Broken) → broken spec t ≡ Some b → KeyIsCarried spec s t b ⊎ InclusionIsCarried spec s t b
+BrokenIsCarried = (spec : Spec) (s t : State) → Legal spec s → (b : Broken) → broken spec t ≡ Some b → BreakIsCarried spec s t b
 
 -- a line leaves its row present or absent, and all other rows of all relations as they were
 abbrev pub LinesChangeRows : Type 0

@@ -3,7 +3,7 @@
 
 ghost use Rattle.wh_laws.specs.Acceptance.{AcceptedIsWellFormed, CycleIsFirst};
 ghost use Rattle.wh_laws.specs.Example.{ShopIsLegal, ShopIsStored, ShopIsReconstructed, ShopHasCovers, ShopHasMarks, ShopIsBroken};
-ghost use Rattle.wh_laws.specs.Laws.{PiecesAreProjections, CoveredAreRows, JoinsAreCovered, RelationIsParts, ReconstructionGivesState, StateIsUnique, MarkedIsEmpty, BrokenKeysAreCarried, BrokenInclusionsAreCarried, LegalBreaksNothing, BrokenIsFirst, BrokenIsCarried, LinesChangeRows, QuietKeysStay, StoredGoesBySets, StoredIsInOrder, CoverNumbersAreCovers};
+ghost use Rattle.wh_laws.specs.Laws.{PiecesAreProjections, CoveredAreRows, JoinsAreCovered, RelationIsParts, ReconstructionGivesState, StateIsUnique, MarkedIsEmpty, ViolationsAreCarried, LegalBreaksNothing, BrokenIsFirst, BrokenIsCarried, LinesChangeRows, QuietKeysStay, StoredGoesBySets, StoredIsInOrder, CoverNumbersAreCovers};
 
 /// Accepted statements give what they declare: a specification within the limits that is well formed, with no cycle of inclusions.
 pub fn accepted_is_well_formed()
@@ -50,14 +50,9 @@ pub fn marked_is_empty()
     ensures { MarkedIsEmpty }
 {}
 
-/// Where a legal state is changed, a key value that two rows carry is carried by a row that entered.
-pub fn broken_keys_are_carried()
-    ensures { BrokenKeysAreCarried }
-{}
-
-/// Where a legal state is changed, a value that an inclusion misses is carried by a row that left or entered.
-pub fn broken_inclusions_are_carried()
-    ensures { BrokenInclusionsAreCarried }
+/// Where a legal state is changed, a value that breaks a constraint is carried by a row that left or entered.
+pub fn violations_are_carried()
+    ensures { ViolationsAreCarried }
 {}
 
 /// A state is legal exactly where no constraint is broken.
