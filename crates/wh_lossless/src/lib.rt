@@ -1,6 +1,7 @@
 //! The relations whose complements are empty in every legal state.
 #![tactic(auto)]
 
+mod free;
 mod joining;
 mod mark;
 
