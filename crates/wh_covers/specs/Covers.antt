@@ -7,9 +7,9 @@ use Rattle.wh_covers.specs.declared.cover.CoverFault.TheVariants.{TooManyPieces,
 use Rattle.wh_schema.specs.declared.piece.Piece.{Piece}
 use Rattle.wh_schema.specs.declared.spec.Spec.{Spec}
 
--- u32 has numbers for the relations, the complements, the inclusions and the views of a specification, all together
+-- u32 has numbers for the relations, the complements, the inclusions, the views and the checks of a specification, all together
 abbrev pub IsNumbered : Spec → Type 0
-IsNumbered spec = length spec.relations + length spec.relations + length spec.inclusions + length spec.views < 2 ^ 32
+IsNumbered spec = length spec.relations + length spec.relations + length spec.inclusions + length spec.views + length spec.checks < 2 ^ 32
 
 -- what a fault says of a number of pieces
 abbrev pub IsCoverFault : ℕ → CoverFault → Type 0
