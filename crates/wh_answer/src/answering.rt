@@ -4,6 +4,7 @@ ghost use Rattle.wh_expr.specs.Meaning.{meaning, tables};
 ghost use Rattle.wh_schema.specs.Heads.{heads_of};
 ghost use Rattle.wh_store.specs.Warehouse.{IsInForm};
 ghost use Rattle.wh_answer.specs.Answer.{IsOverSources, SameStored, answer_text, rows_of, source_rows};
+ghost use Rattle.wh_base.specs.RoomyText.{KeepsRoom};
 
 use std::alloc::Global;
 use wh_base::{ByteText, NoMemory, Rows, names_of, put_table, sort_rows};
@@ -28,6 +29,7 @@ pub fn answer<L: Ledger>(
     // Tables that hold the same rows in any order give the same text.
     ensures ok { OnOk result ((rows : _) → SameStored w.now.plan.spec (rows_of w.now.tables) rows → out.new.bytes ≡ out.old.bytes ++ answer_text w.now.plan.spec rows q.now) }
     ensures err { OnErr result (out.new.bytes ≡ out.old.bytes) }
+    ensures kept { KeepsRoom out.old out.new }
     ensures probes { steps.old.probes ≤ steps.new.probes }
     ensures scans { steps.old.scans ≤ steps.new.scans }
 {

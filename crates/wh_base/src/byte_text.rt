@@ -1,5 +1,6 @@
 ghost use Rattle.std.specs.Prelude.{◌≡◌, ◌+◌, ◌-◌, ◌<◌, ◌≤◌, [], ◌∷◌, ◌++◌, length, slice_get, OnOk, OnErr, OnSome, IfOk};
 ghost use Rattle.std.specs.Option.{option_copied};
+ghost use Rattle.wh_base.specs.RoomyText.{KeepsRoom};
 
 use crate::memory::NoMemory;
 use crate::sequence::{Duplicate, Sequence};
@@ -106,6 +107,7 @@ impl ByteText {
         ensures err { OnErr result (self.new.bytes ≡ self.old.bytes) }
         ensures spare { self.old.spare ≤ self.new.spare + 1 }
         ensures needed { OnErr result (self.old.spare ≡ 0) }
+        ensures kept { KeepsRoom self.old self.new }
     {
         self.bytes.push(byte)?;
         self.spare = self.spare.saturating_sub(1);
@@ -118,6 +120,7 @@ impl ByteText {
         ensures err { OnErr result (self.new.bytes ≡ self.old.bytes) }
         ensures spare { self.old.spare ≤ self.new.spare + length piece.now }
         ensures needed { OnErr result (self.old.spare < length piece.now) }
+        ensures kept { KeepsRoom self.old self.new }
     {
         self.reserve(piece.len())?;
         self.put(piece);

@@ -2,6 +2,7 @@
 ghost use Rattle.std.specs.Prelude.{◌≡◌, ◌++◌, ◌<◌, ◌^◌, length, OnOk, OnErr};
 ghost use Rattle.wh_codec.specs.Body.{IsSpelled, IsSpelledSnapshot, IsSpelledChange, frame_bytes, text_bytes};
 ghost use Rattle.wh_codec.specs.declared.frame.Frame.TheVariants.{Snapshot, Change};
+ghost use Rattle.wh_base.specs.RoomyText.{KeepsRoom};
 
 use crate::frame::Frame;
 use crate::numbers::{put_u32, put_u64};
@@ -67,6 +68,7 @@ pub fn write_frame(alloc: Global, frame: &Frame, out: &mut ByteText) -> Result<(
     requires { IsSpelled frame.now }
     ensures ok { OnOk result (out.new.bytes ≡ out.old.bytes ++ frame_bytes frame.now) }
     ensures err { OnErr result (out.new.bytes ≡ out.old.bytes) }
+    ensures kept { KeepsRoom out.old out.new }
 {
     let mut body = ByteText::new(alloc);
     put_frame(&mut body, frame)?;

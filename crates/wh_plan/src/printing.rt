@@ -10,6 +10,7 @@ ghost use Rattle.wh_query_text.specs.Printed.{name_at as name_of, list_mark, exp
 ghost use Rattle.wh_schema.specs.Heads.{heads_of};
 ghost use Rattle.wh_schema.specs.Reconstruction.{order};
 ghost use Rattle.wh_schema.specs.Warehouse.{numbers};
+ghost use Rattle.wh_base.specs.RoomyText.{KeepsRoom};
 
 use crate::pieces::piece_expr;
 use crate::plan::Plan;
@@ -247,6 +248,7 @@ pub fn print_plan(alloc: Global, p: &Plan, out: &mut ByteText) -> Result<(), NoM
     requires numbered { IsNumbered p.now.spec }
     ensures ok { OnOk result (out.new.bytes ≡ out.old.bytes ++ plan_text p.now.spec) }
     ensures err { OnErr result (out.new.bytes ≡ out.old.bytes) }
+    ensures kept { KeepsRoom out.old out.new }
     ensures spare { out.old.spare ≤ out.new.spare + length (plan_text p.now.spec) }
 {
     let text = plan_text(alloc, p)?;

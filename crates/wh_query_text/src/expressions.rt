@@ -5,6 +5,7 @@ ghost use Rattle.wh_base.specs.declared.head.Head.{Head};
 ghost use Rattle.wh_base.specs.Lines.{separated_by};
 ghost use Rattle.wh_grammar.specs.Printed.{printed};
 ghost use Rattle.wh_query_text.specs.Printed.{placed, name_at, list_mark, names_text, renaming_text, renamings_text, expr_shown, expr_text};
+ghost use Rattle.wh_base.specs.RoomyText.{KeepsRoom};
 
 use std::alloc::Global;
 use wh_base::{ByteText, Cond, Heads, Name, NoMemory, put_names};
@@ -145,6 +146,7 @@ pub fn print_expr(
 ) -> Result<(), NoMemory>
     ensures ok { OnOk result (out.new.bytes ≡ out.old.bytes ++ expr_text heads.now e.now) }
     ensures err { OnErr result (out.new.bytes ≡ out.old.bytes) }
+    ensures kept { KeepsRoom out.old out.new }
     ensures spare { out.old.spare ≤ out.new.spare + length (expr_text heads.now e.now) }
 {
     let mut text = ByteText::new(alloc);

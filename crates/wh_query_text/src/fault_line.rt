@@ -1,5 +1,6 @@
 ghost use Rattle.std.specs.Prelude.{◌≡◌, ◌≤◌, ◌+◌, ◌++◌, length, IfOk, OnOk, OnErr};
 ghost use Rattle.wh_query_text.specs.QueryTexts.{rule_words, fault_words};
+ghost use Rattle.wh_base.specs.RoomyText.{KeepsRoom};
 
 use crate::fault::QueryFault;
 use std::alloc::Global;
@@ -47,6 +48,7 @@ pub fn put_query_fault(
 ) -> Result<(), NoMemory>
     ensures ok { OnOk result (out.new.bytes ≡ out.old.bytes ++ fault_words fault.now) }
     ensures err { OnErr result (out.new.bytes ≡ out.old.bytes) }
+    ensures kept { KeepsRoom out.old out.new }
     ensures spare { out.old.spare ≤ out.new.spare + length (fault_words fault.now) }
 {
     let line = fault_line(alloc, fault)?;

@@ -4,6 +4,7 @@ ghost use Rattle.wh_fit.specs.Differences.{difference};
 ghost use Rattle.wh_report.specs.Audit.{audit_text, change_text, signed_line};
 ghost use Rattle.wh_store.specs.Image.{Image};
 ghost use Rattle.wh_store.specs.Warehouse.{IsInForm, IsWarehouseOf};
+ghost use Rattle.wh_base.specs.RoomyText.{KeepsRoom};
 
 use crate::held::held_relation;
 use crate::reporting::relation_name;
@@ -27,6 +28,7 @@ pub fn audit<L: Ledger>(
     requires relation { rel < length w.now.plan.spec.relations }
     ensures ok { OnOk result ((i : Image) → IsWarehouseOf i w.now → out.new.bytes ≡ out.old.bytes ++ audit_text i rel rows.now) }
     ensures err { OnErr result (out.new.bytes ≡ out.old.bytes) }
+    ensures kept { KeepsRoom out.old out.new }
     ensures probes { steps.old.probes ≤ steps.new.probes }
     ensures scans { steps.old.scans ≤ steps.new.scans }
 {

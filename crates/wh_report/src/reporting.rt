@@ -9,6 +9,7 @@ ghost use Rattle.wh_schema.specs.EmptyMark.{always_empty as is_marked};
 ghost use Rattle.wh_schema.specs.Warehouse.{numbers, relation_at, view_at};
 ghost use Rattle.wh_store.specs.Image.{Image, stored_count as table_count};
 ghost use Rattle.wh_store.specs.Warehouse.{IsInForm, IsWarehouseOf};
+ghost use Rattle.wh_base.specs.RoomyText.{KeepsRoom};
 
 use crate::counting::{relation_count, sources_total, stored_count, stored_total};
 use crate::held::held_relations;
@@ -32,6 +33,7 @@ pub fn report<L: Ledger>(
     requires form { IsInForm w.now }
     ensures ok { OnOk result ((i : Image) → IsWarehouseOf i w.now → out.new.bytes ≡ out.old.bytes ++ report_text i) }
     ensures err { OnErr result (out.new.bytes ≡ out.old.bytes) }
+    ensures kept { KeepsRoom out.old out.new }
     ensures probes { steps.old.probes ≤ steps.new.probes }
     ensures scans { steps.old.scans ≤ steps.new.scans }
 {

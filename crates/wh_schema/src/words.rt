@@ -4,6 +4,7 @@ ghost use Rattle.std.specs.Option.{option_copied};
 ghost use Rattle.wh_schema.specs.Rules.{declared};
 ghost use Rattle.wh_schema.specs.RuleWords.{unknown_name, repeated_name, given_name, clashing_name, breaking_name, cycle_words, limit_word, words_before, name_words, words_within, words_after, cause_words, rule_words};
 ghost use Rattle.wh_schema.specs.Warehouse.{relation_at};
+ghost use Rattle.wh_base.specs.RoomyText.{KeepsRoom};
 
 use crate::adding::{added, empty_spec};
 use crate::check_rules::unknown_relation;
@@ -238,6 +239,7 @@ pub fn put_rule_words(
 ) -> Result<(), NoMemory>
     ensures ok { OnOk result (out.new.bytes ≡ out.old.bytes ++ rule_words raw.now fault.now) }
     ensures err { OnErr result (out.new.bytes ≡ out.old.bytes) }
+    ensures kept { KeepsRoom out.old out.new }
     ensures spare { out.old.spare ≤ out.new.spare + length (rule_words raw.now fault.now) }
 {
     match fault {

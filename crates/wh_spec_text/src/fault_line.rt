@@ -2,6 +2,7 @@ ghost use Rattle.std.specs.Prelude.{◌≡◌, ◌≤◌, ◌+◌, ◌++◌, len
 ghost use Rattle.wh_schema.specs.RuleWords.{rule_words};
 ghost use Rattle.wh_spec_text.specs.SpecTexts.{raw_or_none, fault_words};
 ghost use Rattle.wh_spec_text.specs.Texts.{raw_of_text};
+ghost use Rattle.wh_base.specs.RoomyText.{KeepsRoom};
 
 use crate::fault::SpecTextFault;
 use crate::parsing::parse_raw;
@@ -80,6 +81,7 @@ pub fn put_spec_fault(
 ) -> Result<(), NoMemory>
     ensures ok { OnOk result (out.new.bytes ≡ out.old.bytes ++ fault_words text.now fault.now) }
     ensures err { OnErr result (out.new.bytes ≡ out.old.bytes) }
+    ensures kept { KeepsRoom out.old out.new }
     ensures spare { out.old.spare ≤ out.new.spare + length (fault_words text.now fault.now) }
 {
     let line = fault_line(alloc, text, fault)?;

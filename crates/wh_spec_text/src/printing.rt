@@ -3,6 +3,7 @@ ghost use Rattle.wh_grammar.specs.Printed.{joined};
 ghost use Rattle.wh_spec_text.specs.Printed as printed;
 ghost use Rattle.wh_spec_text.specs.Printed.{spec_text};
 ghost use Rattle.wh_spec_text.specs.Textual.{AnswersAreTextual, IsReadAgain};
+ghost use Rattle.wh_base.specs.RoomyText.{KeepsRoom};
 
 use std::alloc::Global;
 use wh_base::{Attr, ByteText, Cond, Kind, Name, NoMemory};
@@ -189,6 +190,7 @@ fn printed_spec(alloc: Global, spec: &Spec) -> Result<ByteText, NoMemory>
 pub fn print_spec(alloc: Global, spec: &Spec, out: &mut ByteText) -> Result<(), NoMemory>
     ensures ok { OnOk result (out.new.bytes ≡ out.old.bytes ++ spec_text spec.now) }
     ensures err { OnErr result (out.new.bytes ≡ out.old.bytes) }
+    ensures kept { KeepsRoom out.old out.new }
     ensures spare { out.old.spare ≤ out.new.spare + length (spec_text spec.now) }
 {
     let text = printed_spec(alloc, spec)?;
