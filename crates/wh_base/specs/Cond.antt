@@ -1,8 +1,9 @@
 use Rattle.std.specs.Prelude.{◌≡◌, ◌+◌, ℕ, Bool, true, not, ◌&&◌, ◌||◌, List, [], ◌∷◌, ◌++◌, Option, None, Some, Result, Ok, Err, if◌then◌else◌}
 use Rattle.std.specs.Ordering.{is_eq, is_ne, is_lt, is_le, is_gt, is_ge}
 use Rattle.std.specs.declared.cmp.Ordering.{Ordering}
-use Rattle.wh_base.specs.declared.cond.Cond.{Cond, fold-Cond}
+use Rattle.wh_base.specs.declared.cond.Cond.{Cond, fold-Cond, para-Cond}
 use Rattle.wh_base.specs.declared.cond.Cond.TheOpen.{Cond-F}
+use Rattle.wh_base.specs.declared.cond.Cond.TheVariants.{Cmp, Or, Not}
 use Rattle.wh_base.specs.declared.cond.CondFault.{CondFault}
 use Rattle.wh_base.specs.declared.cond.CondFault.TheVariants.{UnknownAttr, KindMismatch}
 use Rattle.wh_base.specs.declared.cond.Found.{Found}
@@ -128,3 +129,17 @@ cond_names_at (Cond-F.Not a) = a
 
 abbrev pub cond_names : Cond → List (List ℕ)
 cond_names c = fold-Cond (List (List ℕ)) cond_names_at c
+
+-- ---- conditions taken apart at `and`
+
+-- of one level, from its parts, each with its conjuncts
+abbrev pub conjuncts_at : Cond-F (Cond × List Cond) → List Cond
+conjuncts_at Cond-F.Always = []
+conjuncts_at (Cond-F.Cmp a op b) = Cmp a op b ∷ []
+conjuncts_at (Cond-F.And a b) = a.1 ++ b.1
+conjuncts_at (Cond-F.Or a b) = Or a.0 b.0 ∷ []
+conjuncts_at (Cond-F.Not a) = Not a.0 ∷ []
+
+-- the parts of a condition when it is taken apart at `and`; what is always true demands nothing and has none
+abbrev pub conjuncts : Cond → List Cond
+conjuncts c = para-Cond (List Cond) conjuncts_at c

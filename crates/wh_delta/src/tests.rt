@@ -31,6 +31,7 @@ fn chain(alloc: Global) -> Result<Spec, NoMemory> {
     Ok(Spec {
         relations,
         inclusions: Sequence::new(alloc),
+        checks: Sequence::new(alloc),
         views: Sequence::new(alloc),
     })
 }

@@ -19,9 +19,9 @@ use Rattle.wh_base.specs.declared.value.Attr.{Attr}
 use Rattle.wh_base.specs.declared.value.Kind.{Kind}
 use Rattle.wh_base.specs.declared.value.Value.{Value}
 use Rattle.wh_base.specs.Columns.{name_eq, names_of}
-use Rattle.wh_base.specs.Cond.{kind_of, operand_kind, unknowns, mismatches, faults, faults_at, satisfies, operand_value, holds, holds_at}
+use Rattle.wh_base.specs.Cond.{kind_of, operand_kind, unknowns, mismatches, faults, faults_at, satisfies, operand_value, holds, holds_at, conjuncts_at, conjuncts}
 use Rattle.wh_base.specs.Value.{value_cmp}
-use Rattle.wh_schema.specs.EmptyMark.{same_op, same_operand, same_level, same_cond, conjuncts_at, conjuncts}
+use Rattle.wh_schema.specs.EmptyMark.{same_op, same_operand, same_level, same_cond}
 use Rattle.wh_laws.proofs.Lists.{Contains-here, Contains-there, Contains-is}
 use Rattle.wh_laws.proofs.Equality.{Name, name_eq_decides}
 use Rattle.wh_laws.proofs.Joins.{value_of-map}
@@ -87,7 +87,7 @@ cond_same = ind-Cond IsOne (λ x y is. subst (λ z. IsOne (roll-Cond z)) is (rol
 conjuncts_rolled : (y : Cond-F Cond) → conjuncts (roll-Cond y) ≡ conjuncts_at (map-Cond Cond (Cond × List Cond) (λ c. (c, conjuncts c)) y)
 conjuncts_rolled y = para-roll-Cond (List Cond) conjuncts_at y
 
-pub conjuncts_always : conjuncts Always ≡ Always ∷ []
+pub conjuncts_always : conjuncts Always ≡ []
 conjuncts_always = ap conjuncts (sym rolls-Always) ∙ conjuncts_rolled Cond-F.Always
 
 -- the test of a comparison
@@ -113,7 +113,7 @@ module _ (p : Cond → Bool) (columns : List Name) (r : List Value) (true_where 
       subst (λ z. holds z columns r ≡ true) same (true_where c (and_parts (p c) true both).0)
 
   rolled_true : (y : Cond-F TruePart) → IsTrue_of (roll-Cond (map-Cond TruePart Cond (λ e. e.0) y))
-  rolled_true Cond-F.Always e = alone Always (roll-Cond Cond-F.Always) (sym rolls-Always) (conjuncts_rolled Cond-F.Always) e
+  rolled_true Cond-F.Always e = fold-roll-Cond Bool (holds_at columns r) Cond-F.Always
   rolled_true (Cond-F.Cmp a o b) e = alone (Cmp a o b) (roll-Cond (Cond-F.Cmp a o b)) (sym (rolls-Cmp a o b)) (conjuncts_rolled (Cond-F.Cmp a o b)) e
   rolled_true (Cond-F.And c d) e =
       let level = Cond-F.And c.0 d.0 in

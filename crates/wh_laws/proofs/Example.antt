@@ -16,7 +16,7 @@ use Rattle.wh_base.specs.Value.{value_cmp}
 use Rattle.wh_schema.specs.declared.spec.Spec.{Spec}
 use Rattle.wh_schema.specs.declared.spec.View.{View}
 use Rattle.wh_schema.specs.Constraints.{repeated_keys, missing_values, first_break, broken}
-use Rattle.wh_schema.specs.EmptyMark.{is_always, same_level, same_cond, conjuncts, is_checked, joined_on, always_empty}
+use Rattle.wh_schema.specs.EmptyMark.{same_level, same_cond, is_checked, joined_on, always_empty}
 use Rattle.wh_schema.specs.Legality.{WellFormed, InclusionFits, ViewFits, LeadsTo, along}
 use Rattle.wh_schema.specs.Reconstruction.{is_taken}
 use Rattle.wh_schema.specs.Warehouse.{Row, State, no_inclusion, columns_of, key_of, key_value, view_at, table_of, view_table, numbers, complement, stored}
@@ -88,7 +88,7 @@ its_tables_of_grown = stored_is (shop grown) state is_grown grown_passes
 mark_by : Spec → View → List Cond → Bool
 mark_by spec v cs =
     list_any
-    (λ (w : View). (list_all (λ c. is_always c || is_checked spec w.relations c) cs && is_taken w.relations 1)
+    (λ (w : View). (list_all (is_checked spec w.relations) cs && is_taken w.relations 1)
     && (all_in w.head (columns_of spec 1) && list_all (is_taken (joined_on spec w.relations 1)) w.relations))
     (v ∷ [])
 
@@ -99,7 +99,7 @@ grown_is_checked : same_cond grown grown ≡ true
 grown_is_checked = same_cmp (operand.Attr age) Ge (operand.Int (pos 25)) grown ∙ ap (same_level (Cond-F.Cmp (operand.Attr age) Ge (operand.Int (pos 25)))) (outs-Cmp (operand.Attr age) Ge (operand.Int (pos 25)))
 
 pub clerks_have_no_mark : always_empty (shop Always) 0 ≡ false
-clerks_have_no_mark = ap (λ b. (b || false)) (ap (λ cs. (list_all (λ c. is_always c || is_checked (shop Always) (1 ∷ 0 ∷ []) c) cs && true) && false) conjuncts_always)
+clerks_have_no_mark = ap (λ b. (b || false)) (ap (λ cs. (list_all (is_checked (shop Always) (1 ∷ 0 ∷ [])) cs && true) && false) conjuncts_always)
 
 pub sales_have_the_mark : always_empty (shop Always) 1 ≡ true
 unfolding mark_by

@@ -17,7 +17,7 @@ use Rattle.wh_base.specs.Columns.{name_eq, is_in, all_in, value_of, cut}
 use Rattle.wh_base.specs.Cond.{holds, holds_at}
 use Rattle.wh_base.specs.Tables.{join_all}
 use Rattle.wh_schema.specs.Constraints.{Legal}
-use Rattle.wh_schema.specs.EmptyMark.{is_always, same_cond, is_checked, is_free, same_names, shared_with_taken, leads_into, is_joined_on, joined_on, is_lossless, always_empty}
+use Rattle.wh_schema.specs.EmptyMark.{same_cond, is_checked, is_free, same_names, shared_with_taken, leads_into, is_joined_on, joined_on, is_lossless, always_empty}
 use Rattle.wh_schema.specs.Legality.{WellFormed, IsState}
 use Rattle.wh_schema.specs.Reconstruction.{take_next, is_taken}
 use Rattle.wh_schema.specs.Warehouse.{Row, State, sources_of, relation_at, columns_of, table_of, view_at, view_table, pieces, view_piece, piece_table, holds_all, joined_pieces, covered, complement}
@@ -35,10 +35,6 @@ use Rattle.wh_laws.proofs.Order.{taken_decides, step, iterate_keeps}
 
 pub always_holds : (columns : List Name) (r : Row) → holds Always columns r ≡ true
 always_holds columns r = ap (fold-Cond Bool (holds_at columns r)) (sym rolls-Always) ∙ fold-roll-Cond Bool (holds_at columns r) Cond-F.Always
-
-pub always_true : (c : Cond) (columns : List Name) (r : Row) → is_always c ≡ true → holds c columns r ≡ true
-always_true Always columns r e = always_holds columns r
-always_true _ columns r e = absurd (true≢false (sym e))
 
 module _ (spec : Spec) (s : State) (wf : WellFormed spec) (legal : Legal spec s) (v : View) (f : Name → Value)
     (parts : (i : ℕ) → Contains v.relations i → Contains (get_or s i []) (map f (columns_of spec i))) where
@@ -59,16 +55,9 @@ module _ (spec : Spec) (s : State) (wf : WellFormed spec) (legal : Legal spec s)
       ∙ holds_stays (relation_at spec k.relation).attrs joined more f k.cond (wf.checks k a.1).typed
       ∙ met
 
-  conjunct_holds : (c : Cond) → (is_always c || is_checked spec v.relations c) ≡ true → holds c joined (map f joined) ≡ true
-  conjunct_holds c e =
-      elim (cases_Bool (is_always c)) [
-        | inl t ↦ always_true c joined (map f joined) t
-        | inr n ↦ checked_holds c (sym (ap (λ b. b || is_checked spec v.relations c) n) ∙ e)
-      ]
-
   -- the condition of a free view is true of each joined row
   free_holds : is_free spec v ≡ true → holds v.cond joined (map f joined) ≡ true
-  free_holds e = conjuncts_hold (λ c. is_always c || is_checked spec v.relations c) joined (map f joined) conjunct_holds v.cond e
+  free_holds e = conjuncts_hold (is_checked spec v.relations) joined (map f joined) checked_holds v.cond e
 
 -- ---- one more relation
 

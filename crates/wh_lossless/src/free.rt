@@ -1,21 +1,13 @@
 //! Views whose conditions ask for no more than checks do.
-ghost use Rattle.std.specs.Prelude.{◌≡◌, ◌&&◌, ◌||◌};
+ghost use Rattle.std.specs.Prelude.{◌≡◌, ◌&&◌};
 ghost use Rattle.std.specs.List.{list_all};
-ghost use Rattle.wh_schema.specs.EmptyMark.{is_always, same_op, same_operand, same_cond, conjuncts, is_checked, is_free};
+ghost use Rattle.wh_base.specs.Cond.{conjuncts};
+ghost use Rattle.wh_schema.specs.EmptyMark.{same_op, same_operand, same_cond, is_checked, is_free};
 ghost use Rattle.wh_schema.specs.Reconstruction.{is_taken};
 
 use crate::joining::is_taken;
 use wh_base::{Cond, Op, Operand};
 use wh_schema::{Check, Spec, View};
-
-fn is_always(cond: &Cond) -> bool
-    ensures { result ≡ is_always cond.now }
-{
-    match cond {
-        Cond::Always => true,
-        _ => false,
-    }
-}
 
 fn same_op(left: Op, right: Op) -> bool
     ensures { result ≡ same_op left right }
@@ -75,23 +67,16 @@ fn is_checked(spec: &Spec, members: &[u32], cond: &Cond) -> bool
         .any(|check| grants(check, members, cond))
 }
 
-fn is_granted(spec: &Spec, members: &[u32], cond: &Cond) -> bool
-    ensures { result ≡ (is_always cond.now || is_checked spec.now members.now cond.now) }
-{
-    is_always(cond) || is_checked(spec, members, cond)
-}
-
-/// Whether each conjunct of a condition, other than `Always`, is that of a check on one of the relations.
+/// Whether each conjunct of a condition is the whole condition of a check on one of the relations.
 fn are_granted(spec: &Spec, members: &[u32], cond: &Cond) -> bool
-    ensures { result ≡ list_all (λ c. is_always c || is_checked spec.now members.now c) (conjuncts cond.now) }
+    ensures { result ≡ list_all (is_checked spec.now members.now) (conjuncts cond.now) }
 {
     match cond {
+        Cond::Always => true,
         Cond::And(left, right) => {
             are_granted(spec, members, left.get()) && are_granted(spec, members, right.get())
         }
-        Cond::Always | Cond::Cmp(_, _, _) | Cond::Or(_, _) | Cond::Not(_) => {
-            is_granted(spec, members, cond)
-        }
+        Cond::Cmp(_, _, _) | Cond::Or(_, _) | Cond::Not(_) => is_checked(spec, members, cond),
     }
 }
 

@@ -7,7 +7,8 @@ use Rattle.wh_expr.specs.declared.expr.Expr.TheVariants.{Base, Select, Project, 
 use Rattle.wh_expr.specs.declared.expr.Renaming.{Renaming}
 use Rattle.wh_rewrite.specs.declared.wanted.Wanted.{Wanted}
 use Rattle.wh_rewrite.specs.declared.wanted.Wanted.TheVariants.{All}
-use Rattle.wh_rewrite.specs.Conjuncts.{conjuncts, cond_over, old_name}
+use Rattle.wh_base.specs.Cond.{conjuncts}
+use Rattle.wh_rewrite.specs.OtherNames.{cond_over, old_name}
 use Rattle.wh_rewrite.specs.Nodes.{OfBoth, OfOne, projection, selection}
 use Rattle.wh_rewrite.specs.Pushed.{beyond, columns_of, is_within}
 use Rattle.wh_rewrite.specs.Rewritten.{IsAsked, IsRewritten, narrowed}

@@ -11,7 +11,7 @@ use Rattle.wh_expr.specs.Rename.{new_name}
 use Rattle.wh_expr.specs.Typing.{kind_eq, kind_or_int, attrs_named, is_kind, is_kind_or_none, can_join, joined_attrs, has_attrs, same_attrs, renamed_attrs}
 use Rattle.wh_laws.proofs.Lists.{Contains-nil, Contains-here, Contains-there, Contains-cases, Contains-is}
 use Rattle.wh_laws.proofs.Equality.{Name, name_eq_decides, name_is_in, is_in_decides, is_not_in}
-use Rattle.wh_rewrite.specs.Conjuncts.{old_name}
+use Rattle.wh_rewrite.specs.OtherNames.{old_name}
 
 -- ---- attributes and their names
 

@@ -16,11 +16,11 @@ use Rattle.wh_base.specs.declared.cond.Operand.TheVariants as operand
 use Rattle.wh_base.specs.declared.value.Attr.{Attr}
 use Rattle.wh_base.specs.declared.value.Value.{Value}
 use Rattle.wh_base.specs.Columns.{value_of, names_of}
-use Rattle.wh_base.specs.Cond.{IsTyped, cond_names, cond_names_at, comparison_faults, unknowns, mismatches, faults, faults_at, holds, holds_at, kind_of, operand_kind, operand_names, operand_value, satisfies}
+use Rattle.wh_base.specs.Cond.{IsTyped, cond_names, cond_names_at, comparison_faults, unknowns, mismatches, faults, faults_at, holds, holds_at, kind_of, operand_kind, operand_names, operand_value, satisfies, conjuncts, conjuncts_at}
 use Rattle.wh_base.specs.Value.{value_cmp}
 use denote.Hole.Holds.{Such}
 use Rattle.wh_laws.proofs.Lists.{Contains-nil, Contains-here, Contains-cases, Contains-is, every_from, every_in}
-use Rattle.wh_rewrite.specs.Conjuncts.{conjuncts, conjuncts_at, cond_over, cond_over_at, operand_over}
+use Rattle.wh_rewrite.specs.OtherNames.{cond_over, cond_over_at, operand_over}
 use Rattle.wh_rewrite.proofs.AttrLemmas.{kind_in}
 
 -- ---- a test by the conjuncts

@@ -6,7 +6,7 @@ use Rattle.std.proofs.lemmas.Bool.{and_parts}
 use Rattle.wh_base.specs.declared.value.Value.{Value}
 use Rattle.wh_base.specs.declared.cond.Cond.{Cond}
 use Rattle.wh_base.specs.Columns.{name_eq, shared, others, place_of, value_at, value_of, cut}
-use Rattle.wh_base.specs.Cond.{holds, cond_names}
+use Rattle.wh_base.specs.Cond.{holds, cond_names, conjuncts}
 use Rattle.wh_base.specs.RowSet.{has}
 use Rattle.wh_base.specs.Tables.{Table, agree, joined, join, select}
 use Rattle.wh_base.specs.ValueLaws.{row_eq-Decides}
@@ -14,7 +14,6 @@ use Rattle.wh_expr.specs.SameTable.{SameTable}
 use Rattle.wh_laws.proofs.Lists.{Contains-nil, Contains-here, Contains-there, Contains-cases, Contains-is, filter_in, filter_from, map_in, map_from, flat_in, flat_from}
 use Rattle.wh_laws.proofs.Equality.{Name, name_eq_decides, name_is_in, has_decides, shared_in, others_in, all_in_from}
 use Rattle.wh_laws.proofs.Joins.{cut-values, cut-agree}
-use Rattle.wh_rewrite.specs.Conjuncts.{conjuncts}
 use Rattle.wh_rewrite.specs.Pushed.{is_within}
 use Rattle.wh_rewrite.proofs.CondLemmas.{holds_same, holds_conjuncts}
 use Rattle.wh_rewrite.proofs.TableLemmas.{Row, value_of_cut}

@@ -6,7 +6,7 @@ use Rattle.wh_base.specs.declared.cond.Cond.{Cond}
 use Rattle.wh_base.specs.declared.cond.Cond.TheVariants.{Always, Cmp, And, Or, Not}
 use Rattle.wh_base.specs.declared.cond.Op.{Op}
 use Rattle.wh_base.specs.declared.cond.Operand.{Operand}
-use Rattle.wh_rewrite.specs.Conjuncts.{conjuncts}
+use Rattle.wh_base.specs.Cond.{conjuncts}
 use Rattle.wh_rewrite.specs.Pushed.{beyond, is_within}
 use Rattle.wh_rewrite.proofs.CondLemmas.{conjuncts_Always, conjuncts_Cmp, conjuncts_And, conjuncts_Or, conjuncts_Not}
 

@@ -9,7 +9,7 @@ use Rattle.wh_base.specs.declared.value.Kind.{Kind}
 use Rattle.wh_base.specs.declared.value.Kind.TheVariants.{Int, Text}
 use Rattle.wh_base.specs.declared.value.Value.{Value}
 use Rattle.wh_base.specs.Columns.{names_of}
-use Rattle.wh_base.specs.Cond.{IsTyped, cond_names, kind_of}
+use Rattle.wh_base.specs.Cond.{IsTyped, cond_names, kind_of, conjuncts}
 use Rattle.wh_base.specs.Tables.{Table, select, project, join, union, minus}
 use Rattle.wh_expr.specs.declared.expr.Expr.{Expr, out-Expr}
 use Rattle.wh_expr.specs.declared.expr.Expr.TheVariants.{Join, Union, Minus, outs-Join, outs-Minus}
@@ -25,7 +25,6 @@ use Rattle.wh_laws.proofs.Lists.{every_in, filter_from, map_from}
 use Rattle.wh_laws.proofs.Equality.{all_in_from}
 use Rattle.wh_rewrite.specs.declared.wanted.Wanted.{Wanted}
 use Rattle.wh_rewrite.specs.declared.wanted.Wanted.TheVariants.{All, Only}
-use Rattle.wh_rewrite.specs.Conjuncts.{conjuncts}
 use Rattle.wh_rewrite.specs.Nodes.{selection, projection}
 use Rattle.wh_rewrite.specs.Pushed.{columns_of, is_pushed, is_within, may_select, may_project}
 use Rattle.wh_rewrite.specs.Rewritten.{IsAsked, AreWide, IsRewritten, MayBeWanted, wanted_attrs, wanted_of}

@@ -9,7 +9,7 @@ use Rattle.wh_base.specs.declared.head.Head.{Head}
 use Rattle.wh_base.specs.declared.value.Attr.{Attr}
 use Rattle.wh_base.specs.declared.value.Value.{Value}
 use Rattle.wh_base.specs.Columns.{all_in, names_of}
-use Rattle.wh_base.specs.Cond.{IsTyped, cond_names, faults, holds}
+use Rattle.wh_base.specs.Cond.{IsTyped, cond_names, faults, holds, conjuncts}
 use Rattle.wh_base.specs.Tables.{Table, select, project}
 use Rattle.wh_expr.specs.declared.expr.Expr.{Expr, out-Expr}
 use Rattle.wh_expr.specs.declared.expr.Expr.TheVariants.{Base, Select, Project, Rename, outs-Base, outs-Select, outs-Rename}
@@ -26,7 +26,7 @@ use Rattle.wh_expr.proofs.TypedLemmas.{columns-meaning}
 use Rattle.wh_laws.proofs.Equality.{all_in_from, all_in_when}
 use Rattle.wh_rewrite.specs.declared.wanted.Wanted.{Wanted}
 use Rattle.wh_rewrite.specs.declared.wanted.Wanted.TheVariants.{All, Only}
-use Rattle.wh_rewrite.specs.Conjuncts.{conjuncts, cond_over, old_name}
+use Rattle.wh_rewrite.specs.OtherNames.{cond_over, old_name}
 use Rattle.wh_rewrite.specs.Nodes.{selection, projection}
 use Rattle.wh_rewrite.specs.Pushed.{columns_of, is_pushed, may_select, may_project}
 use Rattle.wh_rewrite.specs.Rewritten.{IsAsked, IsRewritten, MayBeWanted, narrowed, wanted_attrs, wanted_of}

@@ -13,7 +13,7 @@ use Rattle.wh_expr.specs.Rename.{new_name, rename}
 use Rattle.wh_expr.specs.SameTable.{SameTable}
 use Rattle.wh_laws.proofs.Lists.{map_same, map_map}
 use Rattle.wh_laws.proofs.Joins.{value_of-map, cut-values}
-use Rattle.wh_rewrite.specs.Conjuncts.{cond_over, old_name}
+use Rattle.wh_rewrite.specs.OtherNames.{cond_over, old_name}
 use Rattle.wh_rewrite.proofs.AttrLemmas.{place_renamed}
 use Rattle.wh_rewrite.proofs.CondLemmas.{holds_same, holds_over}
 

@@ -1,5 +1,5 @@
-pub mod Conjuncts
 pub mod Nodes
+pub mod OtherNames
 pub mod Pushed
 pub mod Rewritten
 pub mod States

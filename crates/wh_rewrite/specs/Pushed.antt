@@ -4,11 +4,10 @@ use Rattle.std.specs.List.{list_all}
 use Rattle.wh_base.specs.declared.cond.Cond.{Cond}
 use Rattle.wh_base.specs.declared.head.Head.{Head}
 use Rattle.wh_base.specs.Columns.{all_in}
-use Rattle.wh_base.specs.Cond.{cond_names}
+use Rattle.wh_base.specs.Cond.{cond_names, conjuncts}
 use Rattle.wh_expr.specs.declared.expr.Expr.{Expr, para-Expr, out-Expr}
 use Rattle.wh_expr.specs.declared.expr.Expr.TheOpen.{Expr-F}
 use Rattle.wh_expr.specs.Meaning.{meaning, tables}
-use Rattle.wh_rewrite.specs.Conjuncts.{conjuncts}
 
 -- the columns of an expression, which are the same whatever rows the tables have
 abbrev pub columns_of : List Head → Expr → List (List ℕ)

@@ -1,9 +1,9 @@
 // Conditions taken apart and put together.
 ghost use Rattle.std.specs.Prelude.{◌≡◌, [], ◌∷◌, ◌++◌, not, filter, IfOk};
 ghost use Rattle.wh_base.specs.Columns.{all_in};
-ghost use Rattle.wh_base.specs.Cond.{operand_names};
+ghost use Rattle.wh_base.specs.Cond.{operand_names, conjuncts};
 ghost use Rattle.wh_base.specs.declared.cond.Cond.TheVariants as cond;
-ghost use Rattle.wh_rewrite.specs.Conjuncts.{conjuncts, cond_over, operand_over, old_name};
+ghost use Rattle.wh_rewrite.specs.OtherNames.{cond_over, operand_over, old_name};
 ghost use Rattle.wh_rewrite.specs.Pushed.{beyond, is_within, is_side};
 
 use crate::names::old_name;

@@ -3,7 +3,7 @@ ghost use Rattle.std.specs.Prelude.{◌≡◌, ◌++◌, map, IfOk};
 ghost use Rattle.wh_base.specs.Columns.{others};
 ghost use Rattle.wh_base.specs.Heads.{columns_at};
 ghost use Rattle.wh_expr.specs.Rename.{new_name};
-ghost use Rattle.wh_rewrite.specs.Conjuncts.{old_name};
+ghost use Rattle.wh_rewrite.specs.OtherNames.{old_name};
 ghost use Rattle.wh_rewrite.specs.Pushed.{columns_of};
 
 use std::alloc::Global;

@@ -1,5 +1,6 @@
 ghost use Rattle.std.specs.Prelude.{◌≡◌, IfOk};
-ghost use Rattle.wh_rewrite.specs.Conjuncts.{conjuncts, cond_over, old_name};
+ghost use Rattle.wh_base.specs.Cond.{conjuncts};
+ghost use Rattle.wh_rewrite.specs.OtherNames.{cond_over, old_name};
 ghost use Rattle.wh_rewrite.specs.Pushed.{columns_of, conjuncts_beyond, conjuncts_within};
 ghost use Rattle.wh_rewrite.specs.Rewritten.{IsAsked, IsRewritten};
 

@@ -87,6 +87,7 @@ fn spec(alloc: Global) -> Result<Spec, NoMemory> {
     Ok(Spec {
         relations,
         inclusions: Sequence::new(alloc),
+        checks: Sequence::new(alloc),
         views: Sequence::new(alloc),
     })
 }

@@ -1,17 +1,17 @@
 -- Relations whose complement is empty in every legal state: a view, whose condition asks for no more than checks do, keeps all their
 -- attributes, and each other relation of the view is joined along an inclusion that leads into it, so that no row of theirs lacks a partner.
-use Rattle.std.specs.Prelude.{ℕ, nat_eq, List, [], ◌∷◌, ◌++◌, Bool, true, false, not, ◌&&◌, ◌||◌, length}
+use Rattle.std.specs.Prelude.{ℕ, nat_eq, List, [], ◌∷◌, Bool, true, false, not, ◌&&◌, length}
 use Rattle.std.specs.List.{flat_map, list_any, list_all}
 use Rattle.std.specs.Cmp.Lexicographic.{pointwise}
 use Rattle.std.specs.Ordering.{int_eq}
-use Rattle.wh_base.specs.declared.cond.Cond.{Cond, out-Cond, fold-Cond, para-Cond}
+use Rattle.wh_base.specs.declared.cond.Cond.{Cond, out-Cond, fold-Cond}
 use Rattle.wh_base.specs.declared.cond.Cond.TheOpen.{Cond-F}
-use Rattle.wh_base.specs.declared.cond.Cond.TheVariants.{Always, Cmp, Or, Not}
 use Rattle.wh_base.specs.declared.cond.Op.{Op}
 use Rattle.wh_base.specs.declared.cond.Op.TheVariants.{Eq, Ne, Lt, Le, Gt, Ge}
 use Rattle.wh_base.specs.declared.cond.Operand.{Operand}
 use Rattle.wh_base.specs.declared.cond.Operand.TheVariants as operand
 use Rattle.wh_base.specs.Columns.{name_eq, all_in, shared}
+use Rattle.wh_base.specs.Cond.{conjuncts}
 use Rattle.wh_schema.specs.declared.spec.Inclusion.{Inclusion}
 use Rattle.wh_schema.specs.declared.spec.Spec.{Spec}
 use Rattle.wh_schema.specs.declared.spec.View.{View}
@@ -19,10 +19,6 @@ use Rattle.wh_schema.specs.Warehouse.{columns_of}
 use Rattle.wh_schema.specs.Reconstruction.{iterate, is_taken, take_next}
 
 -- ---- conditions as trees
-
-abbrev pub is_always : Cond → Bool
-is_always Always = true
-is_always _ = false
 
 -- one operator
 abbrev pub same_op : Op → Op → Bool
@@ -54,26 +50,15 @@ same_level _ _ = false
 abbrev pub same_cond : Cond → Cond → Bool
 same_cond = fold-Cond (Cond → Bool) (λ level d. same_level level (out-Cond d))
 
--- the parts of a condition that is taken apart at `and`, from those of its own parts
-abbrev pub conjuncts_at : Cond-F (Cond × List Cond) → List Cond
-conjuncts_at Cond-F.Always = Always ∷ []
-conjuncts_at (Cond-F.Cmp a o b) = Cmp a o b ∷ []
-conjuncts_at (Cond-F.And c d) = c.1 ++ d.1
-conjuncts_at (Cond-F.Or c d) = Or c.0 d.0 ∷ []
-conjuncts_at (Cond-F.Not c) = Not c.0 ∷ []
-
-abbrev pub conjuncts : Cond → List Cond
-conjuncts = para-Cond (List Cond) conjuncts_at
-
 -- ---- views that ask for no more than checks do
 
 -- the condition is the whole condition of a check on one of the relations
 abbrev pub is_checked : Spec → List ℕ → Cond → Bool
 is_checked spec members c = list_any (λ k. is_taken members k.relation && same_cond c k.cond) spec.checks
 
--- each conjunct of the condition, other than `Always`, is that of a check on one of the view's relations
+-- each conjunct of the condition is the whole condition of a check on one of the view's relations
 abbrev pub is_free : Spec → View → Bool
-is_free spec v = list_all (λ c. is_always c || is_checked spec v.relations c) (conjuncts v.cond)
+is_free spec v = list_all (is_checked spec v.relations) (conjuncts v.cond)
 
 -- ---- relations that are joined without the loss of a row
 

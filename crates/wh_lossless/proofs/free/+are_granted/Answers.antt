@@ -1,24 +1,25 @@
 use Rattle.std.proofs.Common.{◌≡◌, ◌&&◌, ◌||◌, Bool, true, false, sym, ap, ◌∙◌}
 use Rattle.std.specs.List.{list_all}
 use Rattle.wh_base.specs.declared.cond.Cond.{Cond}
-use Rattle.wh_schema.specs.EmptyMark.{conjuncts, is_always, is_checked}
-use Rattle.wh_lossless.proofs.Conjuncts.{all_and, all_alone}
+use Rattle.wh_base.specs.Cond.{conjuncts}
+use Rattle.wh_schema.specs.EmptyMark.{is_checked}
+use Rattle.wh_lossless.proofs.Conjuncts.{all_and, all_alone, all_always}
 use Rattle.wh_lossless.proofs.free.+are_granted.Goals as goal
 
 pub returns-then-are_granted : goal.returns-then-are_granted
 returns-then-are_granted t c =
-    let p : Cond → Bool = λ d. is_always d || is_checked c.args.spec.now c.args.members.now d in
+    let p = is_checked c.args.spec.now c.args.members.now in
     let left : list_all p (conjuncts c.in-And.left) ≡ true = ap (λ d. list_all p (conjuncts d)) (sym c.get.ensures) ∙ sym c.are_granted.ensures ∙ c.if-are_granted.true in
     let right = c.are_granted-then-are_granted.ensures ∙ ap (λ d. list_all p (conjuncts d)) c.get-then-are_granted.ensures in
     right ∙ sym (ap (λ d. list_all p (conjuncts d)) c.in-And.is ∙ all_and p c.in-And.left c.in-And.right ∙ ap (λ b. b && list_all p (conjuncts c.in-And.right)) left)
 
 pub returns-else-are_granted : goal.returns-else-are_granted
 returns-else-are_granted t c =
-    let p : Cond → Bool = λ d. is_always d || is_checked c.args.spec.now c.args.members.now d in
+    let p = is_checked c.args.spec.now c.args.members.now in
     let left : list_all p (conjuncts c.in-And.left) ≡ false = ap (λ d. list_all p (conjuncts d)) (sym c.get.ensures) ∙ sym c.are_granted.ensures ∙ c.if-are_granted.false in
     c.if-are_granted.false ∙ sym (ap (λ d. list_all p (conjuncts d)) c.in-And.is ∙ all_and p c.in-And.left c.in-And.right ∙ ap (λ b. b && list_all p (conjuncts c.in-And.right)) left)
 
 pub returns-in-Always : goal.returns-in-Always
 returns-in-Always t c =
-    let p : Cond → Bool = λ d. is_always d || is_checked c.args.spec.now c.args.members.now d in
-    c.is_granted.ensures ∙ sym (all_alone p c.args.cond.now c.in-Always.is)
+    let p = is_checked c.args.spec.now c.args.members.now in
+    sym (ap (λ d. list_all p (conjuncts d)) c.in-Always.is ∙ all_always p)

@@ -1,5 +1,5 @@
 use Rattle.std.proofs.Common.{◌≡◌, drop}
-use Rattle.wh_rewrite.specs.Conjuncts.{old_name}
+use Rattle.wh_rewrite.specs.OtherNames.{old_name}
 use Rattle.wh_rewrite.proofs.names.old_name.Given as goal
 
 abbrev pub invariant-loop-column : goal.invariant-loop-column

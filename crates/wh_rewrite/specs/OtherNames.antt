@@ -1,6 +1,6 @@
--- Conditions taken apart at `and`, and conditions over other names.
-use Rattle.std.specs.Prelude.{ℕ, List, [], ◌∷◌, ◌++◌, if◌then◌else◌}
-use Rattle.wh_base.specs.declared.cond.Cond.{Cond, fold-Cond, para-Cond}
+-- Conditions over other names.
+use Rattle.std.specs.Prelude.{ℕ, List, [], ◌∷◌, if◌then◌else◌}
+use Rattle.wh_base.specs.declared.cond.Cond.{Cond, fold-Cond}
 use Rattle.wh_base.specs.declared.cond.Cond.TheOpen.{Cond-F}
 use Rattle.wh_base.specs.declared.cond.Cond.TheVariants.{Always, Cmp, And, Or, Not}
 use Rattle.wh_base.specs.declared.cond.Operand.{Operand}
@@ -8,20 +8,6 @@ use Rattle.wh_base.specs.declared.cond.Operand.TheVariants as operand
 use Rattle.wh_base.specs.Columns.{name_eq}
 use Rattle.wh_expr.specs.declared.expr.Renaming.{Renaming}
 use Rattle.wh_expr.specs.Rename.{new_name}
-
--- of one level, from its parts, each with its conjuncts
-abbrev pub conjuncts_at : Cond-F (Cond × List Cond) → List Cond
-conjuncts_at Cond-F.Always = []
-conjuncts_at (Cond-F.Cmp a op b) = Cmp a op b ∷ []
-conjuncts_at (Cond-F.And a b) = a.1 ++ b.1
-conjuncts_at (Cond-F.Or a b) = Or a.0 b.0 ∷ []
-conjuncts_at (Cond-F.Not a) = Not a.0 ∷ []
-
--- the parts of a condition when it is taken apart at `and`; what is always true demands nothing and has none
-abbrev pub conjuncts : Cond → List Cond
-conjuncts c = para-Cond (List Cond) conjuncts_at c
-
--- ---- other names
 
 abbrev pub operand_over : (List ℕ → List ℕ) → Operand → Operand
 operand_over f (operand.Attr name) = operand.Attr (f name)
