@@ -1,6 +1,5 @@
-use Rattle.std.proofs.Common.{◌≡◌, ◌&&◌, ◌||◌, Bool, true, false, sym, ap, ◌∙◌}
+use Rattle.std.proofs.Common.{◌≡◌, ◌&&◌, true, false, sym, ap, ◌∙◌}
 use Rattle.std.specs.List.{list_all}
-use Rattle.wh_base.specs.declared.cond.Cond.{Cond}
 use Rattle.wh_base.specs.Cond.{conjuncts}
 use Rattle.wh_schema.specs.EmptyMark.{is_checked}
 use Rattle.wh_lossless.proofs.Conjuncts.{all_and, all_alone, all_always}
@@ -23,3 +22,8 @@ pub returns-in-Always : goal.returns-in-Always
 returns-in-Always t c =
     let p = is_checked c.args.spec.now c.args.members.now in
     sym (ap (λ d. list_all p (conjuncts d)) c.in-Always.is ∙ all_always p)
+
+pub returns-in-Cmp : goal.returns-in-Cmp
+returns-in-Cmp t c =
+    let p = is_checked c.args.spec.now c.args.members.now in
+    c.is_checked.ensures ∙ sym (all_alone p c.args.cond.now c.in-Cmp.is)
