@@ -258,7 +258,7 @@ check_claim depth c is =
     (then_part (λ _. name.read >>= (λ r. (token s.Where).read >> ((conditions.cond depth).read >>= (λ d. (token s.Semicolon).read >> pure (record { name = c.name; relation = r; cond = d }))))) (in_word depth) (λ rest. tt) (λ t e. refl)
     (then_part (λ r. (token s.Where).read >> ((conditions.cond depth).read >>= (λ d. (token s.Semicolon).read >> pure (record { name = c.name; relation = r; cond = d })))) (name_claim c.relation depth 0 is.1) (λ rest. refl) (λ t e. refl)
     (then_part (λ _. (conditions.cond depth).read >>= (λ d. (token s.Semicolon).read >> pure (record { name = c.name; relation = c.relation; cond = d }))) (where_word depth) (λ rest. tt) (λ t e. refl)
-    (then_part (λ d. (token s.Semicolon).read >> pure (record { name = c.name; relation = c.relation; cond = d })) (cond_claim c.cond depth is.2 is.3) (λ rest. refl) semicolon_ends
+    (then_part (λ d. (token s.Semicolon).read >> pure (record { name = c.name; relation = c.relation; cond = d })) (cond_claim c.cond depth is.2.0 is.2.1) (λ rest. refl) semicolon_ends
     (ends_line (record { name = c.name; relation = c.relation; cond = c.cond }) depth))))))) in
     let count : 0 + (0 + (0 + (0 + (0 + (nodes c.cond + 0))))) ≡ nodes c.cond = omega arith in
     let counted = subst (λ m. EndClaim (g.check depth).read (statements.Check c) (codes "check " ++ (c.name ++ (codes " in " ++ (c.relation ++ (codes " where " ++ (printed c.cond ++ line_end)))))) depth m (only s.Check)) count h in
