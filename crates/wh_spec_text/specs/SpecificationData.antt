@@ -110,7 +110,7 @@ check_with _ _ _ = None
 
 -- a check behind its first word
 abbrev pub check_of : Tree → Option RawCheck
-check_of (pair name (pair word (pair checked (pair where (pair cond semicolon))))) = check_with (name_of name) (name_of checked) (cond_of cond)
+check_of (pair name (pair in_word (pair checked (pair where_word (pair cond semicolon))))) = check_with (name_of name) (name_of checked) (cond_of cond)
 check_of _ = None
 
 -- an optional condition
