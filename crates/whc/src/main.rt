@@ -5,7 +5,6 @@
 mod audit_tests;
 #[cfg(test)]
 mod crash_tests;
-mod laws;
 #[cfg(test)]
 mod make_tests;
 #[cfg(test)]

@@ -1,5 +1,0 @@
-use Rattle.whc.proofs.Asked.{audit_prints_change}
-use Rattle.whc.proofs.laws.audit_prints_change.Goals as goal
-
-pub returns : goal.returns
-returns g c = audit_prints_change g.D.Disk.content g.D.Disk.faults g.D.Disk.images

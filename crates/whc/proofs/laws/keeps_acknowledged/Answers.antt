@@ -1,5 +1,0 @@
-use Rattle.whc.proofs.Follows.{keeps}
-use Rattle.whc.proofs.laws.keeps_acknowledged.Goals as goal
-
-pub returns : goal.returns
-returns g c = keeps g.D.Disk.content g.D.Disk.faults g.D.Disk.images

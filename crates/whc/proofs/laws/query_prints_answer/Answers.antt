@@ -1,5 +1,0 @@
-use Rattle.whc.proofs.Asked.{query_prints_answer}
-use Rattle.whc.proofs.laws.query_prints_answer.Goals as goal
-
-pub returns : goal.returns
-returns g c = query_prints_answer g.D.Disk.content g.D.Disk.faults g.D.Disk.images

@@ -1,5 +1,0 @@
-use Rattle.whc.proofs.Asked.{report_prints_state}
-use Rattle.whc.proofs.laws.report_prints_state.Goals as goal
-
-pub returns : goal.returns
-returns g c = report_prints_state g.D.Disk.content g.D.Disk.faults g.D.Disk.images

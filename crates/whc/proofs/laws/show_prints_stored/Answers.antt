@@ -1,5 +1,0 @@
-use Rattle.whc.proofs.Shown.{prints_stored}
-use Rattle.whc.proofs.laws.show_prints_stored.Goals as goal
-
-pub returns : goal.returns
-returns g c = λ spec_name dir held before after told answers. prints_stored g.D.Disk.content g.D.Disk.faults g.D.Disk.images spec_name dir held before after told answers
