@@ -1,8 +1,8 @@
 #!/usr/bin/env bash
 # Checks the program that the gate has proved and built, over real files: that the demo prints what the README says and the
 # tour of the bookshop what the tutorial says, that a store is loaded once, that a generated case is made, that a stored table
-# of more than 4,000,000 rows is refused, what checks on rows refuse, and what comes of closed streams, pipes and interrupted calls. It takes some
-# seconds, and says where a tool is missing.
+# of more than 4,000,000 rows is refused, what checks on rows mark and refuse, and what comes of closed streams, pipes and
+# interrupted calls. It takes some seconds, and says where a tool is missing.
 # usage: checks/program.sh [PROGRAM]
 set -eu
 cd "$(dirname "$0")/.."
@@ -62,6 +62,7 @@ same "a table with too many rows" "$(printf 'status 10\nlimit: rows of P')" "$(r
 same "the store that was not loaded" "" "$(ls "$dir/large")"
 
 # Checks on rows: the mark of a plan, and what a dump, a change and a specification are refused for.
+mkdir "$dir/checked"
 planned() {
     printf '%s\n' "$@" >"$dir/spec.txt"
     run "$dir/checked" plan "$dir/spec.txt"
@@ -79,7 +80,6 @@ same "a check for each conjunct" "$(plan yes)" "$(planned "$emp" "$adult" 'check
 same "a plan with a check" "$(plan yes)" "$(planned "$emp" "$adult" "$grown")"
 
 fails='check 2 Adult Emp(clerk) fails (Tim)'
-mkdir "$dir/checked"
 printf 'clerk,age\nTim,17\n' >"$dir/dumps/Emp.csv"
 same "a show of rows that break a check" "$(printf 'status 1\nrefused: %s' "$fails")" "$(run "$dir/checked" show "$dir/spec.txt" "$dir/dumps")"
 same "a load of rows that break a check" "$(printf 'status 1\nrefused: %s' "$fails")" "$(run "$dir/checked" load "$dir/spec.txt" "$dir/dumps")"
