@@ -9,7 +9,7 @@ use Rattle.wh_base.specs.declared.cond.Op.TheVariants.{Ge}
 use Rattle.wh_base.specs.declared.cond.Operand.TheVariants as operand
 use Rattle.wh_base.specs.declared.value.Value.TheVariants.{Int}
 use Rattle.wh_base.specs.Columns.{name_eq, all_in, value_of}
-use Rattle.wh_base.specs.Cond.{holds, holds_at, satisfies}
+use Rattle.wh_base.specs.Cond.{holds, holds_at, satisfies, conjuncts}
 use Rattle.wh_base.specs.RowSet.{has, in_order}
 use Rattle.wh_base.specs.Tables.{Table, project, join_all}
 use Rattle.wh_base.specs.Value.{value_cmp}
