@@ -1,4 +1,4 @@
-use Rattle.std.proofs.Common.{◌∙◌, ap, map, get_or, []}
+use Rattle.std.proofs.Common.{◌∙◌, map, get_or, []}
 use Rattle.std.proofs.lemmas.Result.{IfOk-weaker}
 use Rattle.wh_base.specs.Columns.{picked, place_of}
 use Rattle.wh_schema.specs.Warehouse.{key_value}
