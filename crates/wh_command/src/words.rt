@@ -1,7 +1,7 @@
 // The words of a command's refusals.
-ghost use Rattle.std.specs.Prelude.{◌≡◌, ◌<◌, ◌++◌, length, IfOk, OnOk, codes, decimal};
+ghost use Rattle.std.specs.Prelude.{◌≡◌, ◌++◌, IfOk, OnOk, codes, decimal};
 ghost use Rattle.wh_csv.specs.Words.{cause_words};
-ghost use Rattle.wh_schema.specs.Warehouse.{check_at, relation_at};
+ghost use Rattle.wh_schema.specs.Warehouse.{relation_at};
 ghost use Rattle.wh_spec_text.specs.SpecTexts.{fault_words};
 ghost use Rattle.wh_command.specs.Words.{list_words, columns_words, number_words, value_words, key_words, inclusion_words, check_words, broken_words, dump_words, pieces_words, rows_words, warehouse_file_words};
 ghost use Rattle.wh_query_text.specs.QueryTexts.{fault_words as query_fault_words};
@@ -10,7 +10,7 @@ ghost use Rattle.wh_command.specs.Ask.{damage_words, unknown_words};
 use itoa::Buffer;
 use std::alloc::Global;
 use wh_base::{ByteText, Bytes, Name, Names, NoMemory, put_names, put_record};
-use wh_covers::inclusion_at;
+use wh_covers::{check_at, inclusion_at};
 use wh_csv::CsvCause;
 use wh_query_text::{QueryFault, put_query_fault};
 use wh_schema::{Broken, Check, Constraint, Inclusion, Spec, constraint_at};
@@ -198,13 +198,6 @@ fn put_relation_name(out: &mut ByteText, spec: &Spec, relation: usize) -> Result
         Some(relation) => out.append(relation.name.as_slice()),
         None => out.append(b""),
     }
-}
-
-fn check_at(spec: &Spec, number: u32) -> &Check
-    requires { number < length spec.now.checks }
-    ensures { result.now ≡ check_at spec.now number }
-{
-    &spec.checks.as_slice()[number as usize]
 }
 
 /// `key K REL(COLS) twice (VALUES)`, `inclusion K REL(COLS) in REL(COLS) lacks (VALUES)` or `check K NAME REL(COLS) fails (VALUES)`.
