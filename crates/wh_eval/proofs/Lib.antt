@@ -1,4 +1,8 @@
+mod AskedLemmas
+pub mod ConjunctLemmas
 mod CutLemmas
+mod EqualityLemmas
 mod EvaluateLemmas
 mod PartnerLemmas
+mod ScanLemmas
 pub mod StoredLemmas
