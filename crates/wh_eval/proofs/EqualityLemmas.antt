@@ -47,16 +47,15 @@ module _ (columns : List (List ℕ)) where
   single : (c : Cond) (es : List Equality) → conjuncts c ≡ c ∷ [] → demanded c ≡ es → equalities columns c ≡ filter Kept es
   single c es alone is = ap of_parts alone ∙ ap (filter Kept) (append-nil (demanded c) ∙ is)
 
-  equalities_Always : equalities columns Always ≡ []
+  pub equalities_Always : equalities columns Always ≡ []
   equalities_Always = ap of_parts conjuncts_Always
 
   pub equalities_Cmp : (l r : Operand) (o : Op) → equalities columns (Cmp l o r) ≡ filter (λ e. is_in columns e.name) (compared l o r)
   equalities_Cmp l r o = single (Cmp l o r) (compared l o r) (conjuncts_Cmp l r o) (ap demanded_at (outs-Cmp l o r))
 
-  pub equalities_And : (a b : Cond) → equalities columns (And a b) ≡ equalities columns a ++ equalities columns b
-  equalities_And a b =
-      ap of_parts (conjuncts_And a b) ∙ ap (filter Kept) (flat_map-append demanded (conjuncts a) (conjuncts b))
-      ∙ filter-append Kept (flat_map demanded (conjuncts a)) (flat_map demanded (conjuncts b))
+  pub equalities_both : (a b c : Cond) → conjuncts c ≡ conjuncts a ++ conjuncts b → equalities columns c ≡ equalities columns a ++ equalities columns b
+  equalities_both a b c is =
+      ap of_parts is ∙ ap (filter Kept) (flat_map-append demanded (conjuncts a) (conjuncts b)) ∙ filter-append Kept (flat_map demanded (conjuncts a)) (flat_map demanded (conjuncts b))
 
   equalities_Or : (a b : Cond) → equalities columns (Or a b) ≡ []
   equalities_Or a b = single (Or a b) [] (conjuncts_Or a b) (ap demanded_at (outs-Or a b))
@@ -75,7 +74,7 @@ module _ (columns : List (List ℕ)) where
   insert-And old more a b c is m =
       ap (λ es. insert_all same_column es (equalities columns b)) m
       ∙ sym (fold-append (insert_key same_column) old (equalities columns a) (equalities columns b))
-      ∙ ap (insert_all same_column old) (sym (ap (λ (d : Cond). equalities columns d) is ∙ equalities_And a b))
+      ∙ ap (insert_all same_column old) (sym (ap (λ (d : Cond). equalities columns d) is ∙ equalities_both a b (And a b) (conjuncts_And a b)))
 
 -- ---- each column once
 

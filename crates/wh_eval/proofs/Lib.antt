@@ -1,8 +1,8 @@
 mod AskedLemmas
 pub mod ConjunctLemmas
 mod CutLemmas
-mod EqualityLemmas
+pub mod EqualityLemmas
 mod EvaluateLemmas
 mod PartnerLemmas
-mod ScanLemmas
+pub mod ScanLemmas
 pub mod StoredLemmas
