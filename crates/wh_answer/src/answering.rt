@@ -1,5 +1,6 @@
-ghost use Rattle.std.specs.Prelude.{◌≡◌, ◌≤◌, ◌++◌, List, OnOk, OnErr, IfOk};
+ghost use Rattle.std.specs.Prelude.{◌≡◌, ◌≤◌, ◌++◌, List, IsTrue, OnOk, OnErr, IfOk};
 ghost use Rattle.wh_base.specs.RowSet.{in_order};
+ghost use Rattle.wh_eval.specs.Equalities.{needs_no_scan};
 ghost use Rattle.wh_expr.specs.Meaning.{meaning, tables};
 ghost use Rattle.wh_schema.specs.Heads.{heads_of};
 ghost use Rattle.wh_store.specs.Warehouse.{IsInForm};
@@ -15,7 +16,8 @@ use wh_schema::heads;
 use wh_steps::{Ledger, Steps};
 use wh_store::Warehouse;
 
-/// Appends the answer of a query: a header line, and the distinct rows in row order.
+/// Appends the answer of a query: a header line, and the distinct rows in row order. A query whose names each stand directly under
+/// a selection that compares one of their columns with a literal for equality is answered by look-ups alone.
 pub fn answer<L: Ledger>(
     alloc: Global,
     w: &Warehouse,
@@ -32,6 +34,7 @@ pub fn answer<L: Ledger>(
     ensures kept { KeepsRoom out.old out.new }
     ensures probes { steps.old.probes ≤ steps.new.probes }
     ensures scans { steps.old.scans ≤ steps.new.scans }
+    ensures looked_up { IsTrue (needs_no_scan (heads_of w.now.plan.spec) q.now.expr) → steps.new.scans ≡ steps.old.scans }
 {
     let text = answered(alloc, w, q, steps)?;
     out.append(text.as_bytes())
@@ -49,6 +52,7 @@ fn answered<L: Ledger>(
     ensures text { IfOk result (λ text. text.bytes ≡ answer_text w.now.plan.spec (rows_of w.now.tables) q.now) }
     ensures probes { steps.old.probes ≤ steps.new.probes }
     ensures scans { steps.old.scans ≤ steps.new.scans }
+    ensures looked_up { IsTrue (needs_no_scan (heads_of w.now.plan.spec) q.now.expr) → steps.new.scans ≡ steps.old.scans }
 {
     let rows = sorted_rows(alloc, w, q, steps)?;
     let columns = names_of(alloc, &q.attrs)?;
@@ -69,6 +73,7 @@ fn sorted_rows<L: Ledger>(
     ensures rows { IfOk result (λ rows. rows ≡ in_order (meaning (tables (heads_of w.now.plan.spec) (source_rows w.now.plan.spec (rows_of w.now.tables))) q.now.expr).rows) }
     ensures probes { steps.old.probes ≤ steps.new.probes }
     ensures scans { steps.old.scans ≤ steps.new.scans }
+    ensures looked_up { IsTrue (needs_no_scan (heads_of w.now.plan.spec) q.now.expr) → steps.new.scans ≡ steps.old.scans }
 {
     let heads = heads(alloc, &w.plan.spec)?;
     let stored = Stored::new(&heads, &w.tables);

@@ -15,17 +15,34 @@ use Rattle.wh_expr.specs.Meaning.{meaning}
 use Rattle.wh_expr.specs.Narrowed.{narrowed}
 use Rattle.wh_expr.specs.Rename.{rename}
 use Rattle.wh_expr.specs.SameTable.{SameTable}
+use Rattle.wh_expr.proofs.Congruence.{same_trans, SameTable-select}
 use Rattle.wh_expr.proofs.MeaningLemmas.{same-Select, same-Project, same-Join, same-Union, same-Minus, same-Rename}
 use Rattle.wh_expr.proofs.NarrowedLemmas.{found-Select, found-Project, found-other}
 use Rattle.wh_eval.specs.declared.relation.Relation.{Relation}
 use Rattle.wh_eval.specs.Evaluates.{Evaluates}
 use Rattle.wh_eval.specs.Relation.{table_of}
+use Rattle.wh_eval.proofs.AskedLemmas.{select-narrowed}
 
 same_table : (t u : Table) → t ≡ u → SameTable t u
 same_table t u is = record { columns = ap (λ (v : Table). v.columns) is; rows = λ r. ap (λ (v : Table). has v.rows r) is }
 
 distinct_as : (made : Relation) (t : Table) → table_of made ≡ t → AreDistinct t.rows → AreDistinct made.rows
 distinct_as made t is h = subst AreDistinct (sym (ap (λ (v : Table). v.rows) is)) h
+
+-- a selection of a relation that stands for a table, and of one that stands for what a look-up finds, where the condition demands
+-- what is looked up
+module _ (c : Cond) (t : Table) (made part : Relation) (is : table_of made ≡ select c (table_of part)) where
+  pub selected : Evaluates part t → Evaluates made (select c t)
+  selected h = record {
+    distinct = distinct_as made (select c (table_of part)) is (IsDistinct-filter (holds c part.columns) part.rows h.distinct);
+    same = same_trans (table_of made) (select c (table_of part)) (select c t) (same_table (table_of made) (select c (table_of part)) is) (SameTable-select c (table_of part) t h.same);
+  }
+
+pub selected_found : (c : Cond) (t : Table) (made part : Relation) (names : List (List ℕ)) (values : List Value) → table_of made ≡ select c (table_of part)
+    → ((row : List Value) → holds c t.columns row ≡ true → row_eq (cut t.columns names row) values ≡ true) → Evaluates part (narrowed names values t) → Evaluates made (select c t)
+selected_found c t made part names values is agree h =
+    let found = selected c (narrowed names values t) made part is h in
+    record { distinct = found.distinct; same = same_trans (table_of made) (select c (narrowed names values t)) (select c t) found.same (select-narrowed names values c t agree) }
 
 module _ (g : ℕ → Table) (e : Expr) (made : Relation) where
   pub from-Select : (c : Cond) (x : Expr) (part : Relation) → e ≡ Select c x → Evaluates part (meaning g x) → table_of made ≡ select c (table_of part) → Evaluates made (meaning g e)

@@ -1,3 +1,4 @@
+pub mod Equalities
 pub mod Evaluates
 pub mod Lists
 pub mod Partners

@@ -5,17 +5,21 @@ ghost use Rattle.wh_base.specs.RowSet.{IsSetOf};
 ghost use Rattle.wh_expr.specs.Meaning.{meaning, tables, uses_only, reaches, is_bound};
 ghost use Rattle.wh_expr.specs.Typing.{are_distinct, typing, IsWellTyped};
 ghost use Rattle.wh_expr.specs.Narrowed.{narrowed, rows_with};
+ghost use Rattle.wh_base.specs.Tables.{select};
+ghost use Rattle.wh_eval.specs.Equalities.{asks, needs_no_scan};
 ghost use Rattle.wh_eval.specs.Evaluates.{Evaluates};
 
 use crate::base::Base;
+use crate::equality::asked_in;
 use crate::relation::Relation;
 use crate::{look_up, once};
 use std::alloc::Global;
-use wh_base::{Names, NoMemory, Row, Rows};
+use wh_base::{Cond, Names, NoMemory, Row, Rows};
 use wh_expr::Expr;
 use wh_steps::{Ledger, Steps};
 
-/// The rows that an expression means over a base, each once.
+/// The rows that an expression means over a base, each once. A name that stands directly under a selection is looked up at all
+/// its columns that a conjunct of the condition compares with a literal for equality, and scanned where there are none.
 pub fn eval<B: Base, L: Ledger>(
     alloc: Global,
     e: &Expr,
@@ -27,6 +31,7 @@ pub fn eval<B: Base, L: Ledger>(
         (meaning (tables (B.heads_of base.now) (B.rows_at base.now)) e.now).rows) }
     ensures probes { steps.old.probes ≤ steps.new.probes }
     ensures scans { steps.old.scans ≤ steps.new.scans }
+    ensures looked_up { IsTrue (needs_no_scan (B.heads_of base.now) e.now) → steps.new.scans ≡ steps.old.scans }
 {
     Ok(relation_of(alloc, e, base, steps)?.rows)
 }
@@ -47,6 +52,30 @@ fn table_at<B: Base, L: Ledger>(
     Ok(Relation { columns, rows })
 }
 
+/// The rows of a number on which a condition is true: a selection of what its equalities look up, or of all where it has none.
+fn table_selected<B: Base, L: Ledger>(
+    alloc: Global,
+    n: u32,
+    base: &B,
+    cond: &Cond,
+    steps: &mut Steps<L>,
+) -> Result<Relation, NoMemory>
+    requires { IsTrue (B.has_number base.now n) }
+    ensures rows { IfOk result (λ r. Evaluates r (select cond.now (tables (B.heads_of base.now) (B.rows_at base.now) n))) }
+    ensures probes { steps.old.probes ≤ steps.new.probes }
+    ensures scans { steps.old.scans ≤ steps.new.scans }
+    ensures looked_up { IsTrue (asks (columns_at (B.heads_of base.now) n) cond.now) → steps.new.scans ≡ steps.old.scans }
+{
+    let columns = look_up::columns_of(alloc, base.heads(), n)?;
+    let asked = asked_in(alloc, cond, columns.as_slice())?;
+    if asked.names.is_empty() {
+        let all = table_at(alloc, n, base, steps)?;
+        return Ok(all.select(cond));
+    }
+    let candidates = table_where(alloc, n, base, &asked.names, &asked.values, steps)?;
+    Ok(candidates.select(cond))
+}
+
 fn relation_of<B: Base, L: Ledger>(
     alloc: Global,
     e: &Expr,
@@ -57,13 +86,17 @@ fn relation_of<B: Base, L: Ledger>(
     ensures rows { IfOk result (λ r. Evaluates r (meaning (tables (B.heads_of base.now) (B.rows_at base.now)) e.now)) }
     ensures probes { steps.old.probes ≤ steps.new.probes }
     ensures scans { steps.old.scans ≤ steps.new.scans }
+    ensures looked_up { IsTrue (needs_no_scan (B.heads_of base.now) e.now) → steps.new.scans ≡ steps.old.scans }
 {
     match e {
         Expr::Base(n) => table_at(alloc, *n, base, steps),
-        Expr::Select(cond, child) => {
-            let part = relation_of(alloc, child.get(), base, steps)?;
-            Ok(part.select(cond))
-        }
+        Expr::Select(cond, child) => match child.get() {
+            Expr::Base(n) => table_selected(alloc, *n, base, cond, steps),
+            part => {
+                let part = relation_of(alloc, part, base, steps)?;
+                Ok(part.select(cond))
+            }
+        },
         Expr::Project(names, child) => {
             let part = relation_of(alloc, child.get(), base, steps)?;
             once::project(alloc, part, names)

@@ -2,6 +2,7 @@
 #![tactic(auto)]
 
 mod base;
+mod equality;
 mod evaluate;
 mod join;
 mod lists;

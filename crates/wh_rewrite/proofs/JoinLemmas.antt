@@ -15,7 +15,8 @@ use Rattle.wh_laws.proofs.Lists.{Contains-nil, Contains-here, Contains-there, Co
 use Rattle.wh_laws.proofs.Equality.{Name, name_eq_decides, name_is_in, has_decides, shared_in, others_in, all_in_from}
 use Rattle.wh_laws.proofs.Joins.{cut-values, cut-agree}
 use Rattle.wh_rewrite.specs.Pushed.{is_within}
-use Rattle.wh_rewrite.proofs.CondLemmas.{holds_same, holds_conjuncts}
+use Rattle.wh_eval.proofs.ConjunctLemmas.{holds_conjuncts}
+use Rattle.wh_rewrite.proofs.CondLemmas.{holds_same}
 use Rattle.wh_rewrite.proofs.TableLemmas.{Row, value_of_cut}
 
 -- ---- values of a row that goes on

@@ -3,6 +3,7 @@ pub mod CondLemmas
 pub mod TableLemmas
 pub mod JoinLemmas
 pub mod NodeLemmas
+pub mod Looked
 pub mod Steps
 pub mod Sides
 pub mod Whole

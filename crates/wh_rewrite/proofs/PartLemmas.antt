@@ -8,7 +8,7 @@ use Rattle.wh_base.specs.declared.cond.Op.{Op}
 use Rattle.wh_base.specs.declared.cond.Operand.{Operand}
 use Rattle.wh_base.specs.Cond.{conjuncts}
 use Rattle.wh_rewrite.specs.Pushed.{beyond, is_within}
-use Rattle.wh_rewrite.proofs.CondLemmas.{conjuncts_Always, conjuncts_Cmp, conjuncts_And, conjuncts_Or, conjuncts_Not}
+use Rattle.wh_eval.proofs.ConjunctLemmas.{conjuncts_Always, conjuncts_Cmp, conjuncts_And, conjuncts_Or, conjuncts_Not}
 
 pub none_more : (first c : Cond) → c ≡ Always → conjuncts first ≡ conjuncts first ++ conjuncts c
 none_more first c is = sym (ap (λ (d : Cond). conjuncts first ++ conjuncts d) is ∙ ap (λ ps. conjuncts first ++ ps) conjuncts_Always ∙ append-nil (conjuncts first))

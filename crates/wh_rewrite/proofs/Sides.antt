@@ -31,6 +31,7 @@ use Rattle.wh_rewrite.specs.Rewritten.{IsAsked, AreWide, IsRewritten, MayBeWante
 use Rattle.wh_rewrite.proofs.AttrLemmas.{joined_left, joined_right, kind_named, same_kinds, same_names, same_named}
 use Rattle.wh_rewrite.proofs.CondLemmas.{faults_same, names_are_columns, typed_by_conjuncts, typed_conjunct}
 use Rattle.wh_rewrite.proofs.JoinLemmas.{rest_of, rest_needs_both, select_join}
+use Rattle.wh_rewrite.proofs.Looked.{looked_selection, looked_Join, looked_Union, looked_Minus}
 use Rattle.wh_rewrite.proofs.NodeLemmas.{Sides, columns_are, typing_Join, typing_Union, typing_Minus, well_Join, well_Union, well_Minus, parts_Join, parts_Union, parts_Minus, pushed_Join, pushed_Union, pushed_Minus, uses_Join, uses_Union, uses_Minus, wide_meaning}
 use Rattle.wh_rewrite.proofs.Steps.{Chosen, along, causes_elsewhere, causes_known, chosen, projected}
 use Rattle.wh_rewrite.proofs.TableLemmas.{project_union, select_minus, select_union}
@@ -158,6 +159,7 @@ module _ (heads : List Head) (c l r s : Cond) (a b : Expr) (w : Wanted) (asked :
           numbers = λ held used.
               above.numbers held ∙ uses_Join held x y
               ∙ both_used (uses_only held a) (uses_only held b) (uses_only held x) (uses_only held y) (h.numbers held) (k.numbers held) (sym (uses_Join held a b) ∙ used);
+          looked_up = λ n. looked_selection heads s (Join x y) (looked_Join heads c l r a b x y h.looked_up k.looked_up n);
         }
 
 -- ---- unions and differences
@@ -249,6 +251,7 @@ step_Union heads c a b w asked x y h k = record {
   numbers = λ held used.
       uses_Union held x y
       ∙ both_used (uses_only held a) (uses_only held b) (uses_only held x) (uses_only held y) (h.numbers held) (k.numbers held) (sym (uses_Union held a b) ∙ used);
+  looked_up = looked_Union heads c c c a b x y h.looked_up k.looked_up;
 }
 
 module _ (heads : List Head) (c : Cond) (a b : Expr) (w : Wanted) (asked : IsAsked heads (Minus a b) c w) where
@@ -287,4 +290,5 @@ module _ (heads : List Head) (c : Cond) (a b : Expr) (w : Wanted) (asked : IsAsk
         numbers = λ held used.
             uses_Minus held x y
             ∙ both_used (uses_only held a) (uses_only held b) (uses_only held x) (uses_only held y) (h.numbers held) (k.numbers held) (sym (uses_Minus held a b) ∙ used);
+        looked_up = looked_Minus heads c c c a b x y h.looked_up k.looked_up;
       }

@@ -31,7 +31,10 @@ use Rattle.wh_rewrite.specs.Nodes.{selection, projection}
 use Rattle.wh_rewrite.specs.Pushed.{columns_of, is_pushed, may_select, may_project}
 use Rattle.wh_rewrite.specs.Rewritten.{IsAsked, IsRewritten, MayBeWanted, narrowed, wanted_attrs, wanted_of}
 use Rattle.wh_rewrite.proofs.AttrLemmas.{kind_renamed, names_of_named, names_of_renamed, named_same, same_named}
-use Rattle.wh_rewrite.proofs.CondLemmas.{faults_over, faults_same, holds_Always, holds_conjuncts, names_are_columns, typed_by_conjuncts, typed_conjunct}
+use Rattle.wh_eval.proofs.ConjunctLemmas.{holds_Always, holds_conjuncts}
+use Rattle.wh_rewrite.proofs.CondLemmas.{faults_over, faults_same, names_are_columns, typed_by_conjuncts, typed_conjunct}
+use Rattle.wh_eval.proofs.ScanLemmas.{needs_Project, needs_Rename}
+use Rattle.wh_rewrite.proofs.Looked.{looked_Base, looked_Select, looked_Project, looked_Rename}
 use Rattle.wh_rewrite.proofs.NodeLemmas.{columns_are, typing_Select, typing_Project, typing_Rename, well_Select, well_Project, well_Rename, parts_Select, parts_Project, parts_Rename, pushed_Base, pushed_Select, pushed_Project, pushed_Rename, uses_Select, uses_Project, uses_Rename, selection_is}
 use Rattle.wh_rewrite.proofs.TableLemmas.{same_refl, select_all, select_select, select_project, select_rename, project_project}
 
@@ -60,6 +63,7 @@ module _ (heads : List Head) (e : Expr) (c : Cond) (x : Expr) (h : IsRewritten h
         (SameTable-project names (meaning g x) (select c (meaning g e)) (h.means held rows used wide));
     pushed = pushed_Project heads names x ∙ and_so (may_project (out-Expr x)) (is_pushed heads x) may h.pushed;
     numbers = λ held k. uses_Project held names x ∙ h.numbers held k;
+    looked_up = λ k. needs_Project heads names x ∙ h.looked_up k;
   }
 
 -- ---- a selection above a name or a join
@@ -112,6 +116,7 @@ step_Base heads n c w asked =
       means = λ held rows used wide. k.means rows;
       pushed = k.pushed;
       numbers = λ held used. k.numbers held ∙ used;
+      looked_up = looked_Base heads c n;
     } in
     projected heads (Base n) c (selection c (Base n)) inner k.may w asked.columns
 
@@ -150,6 +155,7 @@ module _ (heads : List Head) (c d both : Cond) (x : Expr) (w : Wanted) (asked : 
         (select_select c d both (meaning g x) (by_both (meaning g x).columns))));
     pushed = h.pushed;
     numbers = λ held used. h.numbers held (sym (uses_Select held d x) ∙ used);
+    looked_up = λ k. h.looked_up (looked_Select heads c d both x is k);
   }
 
 -- ---- a projection
@@ -228,6 +234,7 @@ module _ (heads : List Head) (c : Cond) (names : List (List ℕ)) (x : Expr) whe
         same_trans (meaning (tables heads rows) r) (project names (select c (meaning (tables heads rows) x))) _ (h.means held rows (sym (uses_Project held names x) ∙ used) wide) (passed All asked rows);
     pushed = h.pushed;
     numbers = λ held used. h.numbers held (sym (uses_Project held names x) ∙ used);
+    looked_up = λ k. h.looked_up (looked_Project heads c names x k);
   }
   step_Project (Only fewer) asked r h = record {
     typed = h.typed;
@@ -243,6 +250,7 @@ module _ (heads : List Head) (c : Cond) (names : List (List ℕ)) (x : Expr) whe
         (SameTable-project fewer (project names t) (select c (meaning g (Project names x))) (passed (Only fewer) asked rows)));
     pushed = h.pushed;
     numbers = λ held used. h.numbers held (sym (uses_Project held names x) ∙ used);
+    looked_up = λ k. h.looked_up (looked_Project heads c names x k);
   }
 
 -- ---- new names
@@ -287,4 +295,5 @@ module _ (heads : List Head) (c : Cond) (pairs : List Renaming) (x : Expr) (w : 
             (select_rename c pairs (meaning g x) (λ n k. let P : List (List ℕ) → Type 0 = λ l. Contains (map (new_name pairs) l) n in subst P (sym (columns-meaning heads rows x)) (new_in n k)))));
         pushed = pushed_Rename heads pairs r ∙ h.pushed;
         numbers = λ held used. uses_Rename held pairs r ∙ h.numbers held (sym (uses_Rename held pairs x) ∙ used);
+        looked_up = λ k. needs_Rename heads pairs r ∙ h.looked_up (looked_Rename heads c (cond_over (old_name pairs (columns_of heads x)) c) pairs x k);
       }

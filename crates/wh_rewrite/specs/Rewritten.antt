@@ -9,9 +9,11 @@ use Rattle.wh_base.specs.Heads.{columns_at}
 use Rattle.wh_base.specs.RowSet.{has}
 use Rattle.wh_base.specs.Tables.{Table, select, project}
 use Rattle.wh_expr.specs.declared.expr.Expr.{Expr}
+use Rattle.wh_expr.specs.declared.expr.Expr.TheVariants.{Select}
 use Rattle.wh_expr.specs.Meaning.{meaning, tables, uses_only}
 use Rattle.wh_expr.specs.SameTable.{SameTable}
 use Rattle.wh_expr.specs.Typing.{IsWellTyped, typing, attrs_named, project_causes}
+use Rattle.wh_eval.specs.Equalities.{needs_no_scan}
 use Rattle.wh_rewrite.specs.declared.wanted.Wanted.{Wanted}
 use Rattle.wh_rewrite.specs.declared.wanted.Wanted.TheVariants.{All, Only}
 use Rattle.wh_rewrite.specs.Pushed.{IsPushed}
@@ -30,6 +32,10 @@ MeanTheSame heads e f =
 -- the first expression names no number that the second does not name
 abbrev pub NamesNoOther : Expr → Expr → Type 0
 NamesNoOther e f = (held : ℕ → Bool) → IsTrue (uses_only held f) → IsTrue (uses_only held e)
+
+-- the first expression needs no scan where the second needs none
+abbrev pub LooksUp : List Head → Expr → Expr → Type 0
+LooksUp heads e f = IsTrue (needs_no_scan heads f) → IsTrue (needs_no_scan heads e)
 
 -- ---- with a condition above it, and a projection above that
 
@@ -66,3 +72,4 @@ pub record IsRewritten (heads : List Head) (e : Expr) (c : Cond) (wanted : Wante
       → SameTable (meaning (tables heads rows) r) (wanted_of wanted (select c (meaning (tables heads rows) e)))
   pub pushed : IsPushed heads r
   pub numbers : NamesNoOther r e
+  pub looked_up : LooksUp heads r (Select c e)

@@ -2,7 +2,7 @@ ghost use Rattle.std.specs.Prelude.{◌≡◌, IfOk};
 ghost use Rattle.wh_expr.specs.Typing.{IsWellTyped, typing};
 ghost use Rattle.wh_schema.specs.Heads.{heads_of};
 ghost use Rattle.wh_rewrite.specs.Pushed.{IsPushed};
-ghost use Rattle.wh_rewrite.specs.Rewritten.{MeanTheSame, NamesNoOther};
+ghost use Rattle.wh_rewrite.specs.Rewritten.{LooksUp, MeanTheSame, NamesNoOther};
 
 use crate::pushing::pushed;
 use crate::wanted::Wanted;
@@ -25,6 +25,7 @@ pub fn rewrite(alloc: Global, q: &Query, plan: &Plan) -> Result<Expr, NoMemory>
     ensures typed { IfOk result (λ e. IsWellTyped (heads_of plan.now.spec) e) }
     ensures attrs { IfOk result (λ e. (typing (heads_of plan.now.spec) e).attrs ≡ q.now.attrs) }
     ensures numbers { IfOk result (λ e. NamesNoOther e q.now.expr) }
+    ensures looked_up { IfOk result (λ e. LooksUp (heads_of plan.now.spec) e q.now.expr) }
 {
     let heads = heads(alloc, &plan.spec)?;
     pushed(alloc, &heads, &q.expr, &Cond::Always, &Wanted::All)

@@ -12,13 +12,14 @@ ghost use Rattle.wh_schema.specs.Heads.{heads_of};
 ghost use Rattle.wh_schema.specs.Legality.{WellFormed};
 ghost use Rattle.wh_table.specs.Table.{IsColumnSet};
 
+use sqlite_items::Boxed;
 use std::alloc::Global;
 use std::test::*;
 use wh_base::{
-    Bytes, ColumnSets, Delta, Duplicate, Heads, Name, Names, NoMemory, Row, Rows, Value, all_in,
-    distinct_rows, names_of,
+    Bytes, ColumnSets, Cond, Delta, Duplicate, Heads, Name, Names, NoMemory, Op, Operand, Row,
+    Rows, Value, all_in, distinct_rows, names_of,
 };
-use wh_eval::{Base, Stored, eval_where};
+use wh_eval::{Base, Stored, eval, eval_where};
 use wh_expr::Expr;
 use wh_inverse::{Inverse, have_keys};
 use wh_plan::{Plan, make_plan};
@@ -251,11 +252,70 @@ fn first_with<L: Ledger>(
     stored.first_where(alloc, n, &cols, &vals, steps)
 }
 
-// What is found in the view: the rows of Mary, and a row of John.
+fn attr(alloc: Global, name: &[u8]) -> Result<Operand, NoMemory> {
+    Ok(Operand::Attr(Name::from_vec(Vec::from_slice(alloc, name)?)))
+}
+
+fn text(alloc: Global, bytes: &[u8]) -> Result<Operand, NoMemory> {
+    Ok(Operand::Text(Bytes::from_vec(Vec::from_slice(alloc, bytes)?)))
+}
+
+fn equal(left: Operand, right: Operand) -> Cond {
+    Cond::Cmp(left, Op::Eq, right)
+}
+
+fn and(alloc: Global, left: Cond, right: Cond) -> Result<Cond, NoMemory> {
+    let left = Boxed::new(alloc, left)?;
+    Ok(Cond::And(left, Boxed::new(alloc, right)?))
+}
+
+// The rows of a number on which a condition is true.
+fn selected<B: Base, L: Ledger>(
+    alloc: Global,
+    base: &B,
+    n: u32,
+    cond: Cond,
+    steps: &mut Steps<L>,
+) -> Result<Rows, NoMemory>
+    requires { IsTrue (B.has_number base.now n) }
+{
+    let named = Boxed::new(alloc, Expr::Base(n))?;
+    eval(alloc, &Expr::Select(cond, named), base, steps)
+}
+
+// The rows of Mary, by a literal on the left; her TV, by two columns; and the rows of Mary that are those of John.
+fn selections<B: Base, L: Ledger>(
+    alloc: Global,
+    base: &B,
+    n: u32,
+    steps: &mut Steps<L>,
+) -> Result<(Rows, Rows, Rows), NoMemory>
+    requires { IsTrue (B.has_number base.now n) }
+{
+    let mary = equal(text(alloc, b"Mary")?, attr(alloc, b"clerk")?);
+    let tv = and(
+        alloc,
+        equal(attr(alloc, b"clerk")?, text(alloc, b"Mary")?),
+        equal(attr(alloc, b"item")?, text(alloc, b"TV")?),
+    )?;
+    let both = and(
+        alloc,
+        equal(attr(alloc, b"clerk")?, text(alloc, b"Mary")?),
+        equal(attr(alloc, b"clerk")?, text(alloc, b"John")?),
+    )?;
+    Ok((
+        selected(alloc, base, n, mary, steps)?,
+        selected(alloc, base, n, tv, steps)?,
+        selected(alloc, base, n, both, steps)?,
+    ))
+}
+
+// What is found in the view: the rows of Mary, a row of John, and what is selected.
 #[derive(Drop)]
 struct InView {
     mary: Option<(Rows, Rows)>,
     john: Option<Row>,
+    selected: (Rows, Rows, Rows),
 }
 
 fn found_in_view<L: Ledger>(
@@ -269,6 +329,7 @@ fn found_in_view<L: Ledger>(
     Ok(InView {
         mary: rows_with(alloc, stored, SOLD, b"clerk", b"Mary", steps)?,
         john: first_with(alloc, stored, SOLD, b"clerk", b"John", steps)?,
+        selected: selections(alloc, stored, SOLD, steps)?,
     })
 }
 
@@ -379,9 +440,26 @@ fn is_row(
     Ok(matches!(found, Some(Some(found)) if *found == told))
 }
 
+fn are_selected(alloc: Global, found: (Rows, Rows, Rows)) -> Result<bool, NoMemory> {
+    let (mary, tv, both) = found;
+    Ok(
+        are_sorted_to(mary, &rows(alloc, &SOLD_ROWS[1..])?)?
+            && are_sorted_to(tv, &rows(alloc, &SOLD_ROWS[1..2])?)?
+            && both.is_empty(),
+    )
+}
+
 fn is_in_view(alloc: Global, found: InView) -> Result<bool, NoMemory> {
-    let InView { mary, john } = found;
-    Ok(is_row(alloc, Some(&john), &SOLD_ROWS[0])? && are_rows(alloc, mary, &SOLD_ROWS[1..])?)
+    let InView {
+        mary,
+        john,
+        selected,
+    } = found;
+    Ok(
+        is_row(alloc, Some(&john), &SOLD_ROWS[0])?
+            && are_rows(alloc, mary, &SOLD_ROWS[1..])?
+            && are_selected(alloc, selected)?,
+    )
 }
 
 fn are_clerks(alloc: Global, found: &[Option<Row>]) -> Result<bool, NoMemory> {

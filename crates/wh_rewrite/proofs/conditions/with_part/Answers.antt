@@ -3,7 +3,7 @@ use Rattle.std.proofs.Common.{◌≡◌}
 use Rattle.wh_base.specs.declared.cond.Cond.{Cond}
 use Rattle.wh_base.specs.declared.cond.Cond.TheVariants.{And}
 use Rattle.wh_base.specs.Cond.{conjuncts}
-use Rattle.wh_rewrite.proofs.CondLemmas.{conjuncts_Always, conjuncts_And}
+use Rattle.wh_eval.proofs.ConjunctLemmas.{conjuncts_Always, conjuncts_And}
 use Rattle.wh_rewrite.proofs.conditions.with_part.Goals as goal
 
 pub returns-in-Always : goal.returns-in-Always

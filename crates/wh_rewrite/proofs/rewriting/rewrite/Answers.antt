@@ -2,8 +2,8 @@ use Rattle.std.proofs.Common.{List, sym, ap, subst, ◌∙◌}
 use Rattle.std.proofs.lemmas.Result.{IfOk-weaker}
 use Rattle.wh_base.specs.declared.head.Head.{Head}
 use Rattle.wh_expr.specs.Typing.{IsWellTyped, typing}
-use Rattle.wh_rewrite.specs.Rewritten.{MeanTheSame}
-use Rattle.wh_rewrite.proofs.Whole.{asked_whole, means_whole}
+use Rattle.wh_rewrite.specs.Rewritten.{LooksUp, MeanTheSame}
+use Rattle.wh_rewrite.proofs.Whole.{asked_whole, looked_whole, means_whole}
 use Rattle.wh_rewrite.proofs.rewriting.rewrite.Goals as goal
 
 pub pushed-requires : goal.pushed-requires
@@ -19,3 +19,8 @@ pub returns-clause-attrs : goal.returns-clause-attrs
 returns-clause-attrs c =
     IfOk-weaker c.pushed.result _ _
     (λ e h. ap (λ (heads : List Head). (typing heads e).attrs) (sym c.in_ok-heads.ensures) ∙ h.attrs ∙ ap (λ (heads : List Head). (typing heads c.args.q.now.expr).attrs) c.in_ok-heads.ensures ∙ sym c.requires.attrs) c.pushed.ensures
+
+pub returns-clause-looked_up : goal.returns-clause-looked_up
+returns-clause-looked_up c =
+    IfOk-weaker c.pushed.result _ _
+    (λ e h. subst (λ (heads : List Head). LooksUp heads e c.args.q.now.expr) c.in_ok-heads.ensures (looked_whole c.in_ok-heads.heads c.args.q.now.expr e h)) c.pushed.ensures
