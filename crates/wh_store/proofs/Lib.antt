@@ -1,8 +1,9 @@
 mod Allowed
 pub mod Alone
 pub mod ChangedTables
-mod CommitLemmas
+pub mod CommitLemmas
 mod CreateLemmas
+pub mod Emptiness
 pub mod FirstByte
 pub mod FrameLemmas
 mod FrameOrder
