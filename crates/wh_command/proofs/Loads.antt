@@ -10,7 +10,7 @@ use Rattle.wh_journal.specs.File.{is_empty}
 use Rattle.wh_store.specs.declared.warehouse.Which.TheVariants.{First}
 use Rattle.wh_store.specs.Image.{Holding, holding}
 use Rattle.wh_store.specs.Store.{are_empty, is_too_large, loaded_file, IsEmptyOrLoaded}
-use Rattle.wh_store.proofs.Emptiness.{empty_holds, load_is_full}
+use Rattle.wh_store.proofs.NoStore.{empty_holds, load_is_full}
 use Rattle.wh_command.specs.declared.load.Stock.{Stock}
 use Rattle.wh_command.specs.declared.show.Shown.{Shown}
 use Rattle.wh_command.specs.declared.status.Status.{Status}

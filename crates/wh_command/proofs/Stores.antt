@@ -3,7 +3,7 @@ use Rattle.std.proofs.Common.{◌≡◌, ◌⊎◌, inl, ℕ, ◌≤◌, true, f
 use Rattle.wh_io.specs.Crash.{Only, LeavesOnly}
 use Rattle.wh_store.specs.Image.{Holding, holding}
 use Rattle.wh_store.specs.Store.{are_empty}
-use Rattle.wh_store.proofs.Emptiness.{HoldsSomething, empty_holds, full_holds}
+use Rattle.wh_store.proofs.NoStore.{HoldsSomething, empty_holds, full_holds}
 use Rattle.wh_command.specs.declared.stop.Stop.{Stop}
 use Rattle.wh_command.specs.declared.stop.Stop.TheVariants.{AlreadyLoaded}
 use Rattle.wh_command.specs.Disks.{BothRest, BothLeave, CrashReaches}

@@ -17,7 +17,7 @@ use Rattle.wh_store.specs.Image.{Active, Holding, holding}
 use Rattle.wh_store.specs.Store.{are_empty, is_too_large, loaded_body, loaded_file}
 use Rattle.wh_store.specs.Warehouse.{file_in}
 use Rattle.wh_store.proofs.CommitLemmas.{image_in}
-use Rattle.wh_store.proofs.Emptiness.{HoldsSomething, full_holds}
+use Rattle.wh_store.proofs.NoStore.{HoldsSomething, full_holds}
 use Rattle.wh_store.proofs.SoundFiles.{file_sound}
 
 -- ---- one of both

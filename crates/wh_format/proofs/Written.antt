@@ -22,7 +22,7 @@ use Rattle.wh_store.specs.Image.{Active, Holding, Image, holding}
 use Rattle.wh_store.specs.Store.{loaded, loaded_file}
 use Rattle.wh_store.specs.Warehouse.{file_in}
 use Rattle.wh_store.proofs.CommitLemmas.{held_more}
-use Rattle.wh_store.proofs.Emptiness.{empty_holds}
+use Rattle.wh_store.proofs.NoStore.{empty_holds}
 use Rattle.wh_store.proofs.Loaded.{alone_holds, spelled_snapshot}
 
 pub empty_none : EmptyMeansNone

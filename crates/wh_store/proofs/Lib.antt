@@ -3,13 +3,13 @@ pub mod Alone
 pub mod ChangedTables
 pub mod CommitLemmas
 mod CreateLemmas
-pub mod Emptiness
 pub mod FirstByte
 pub mod FrameLemmas
 mod FrameOrder
 mod HeldTables
 pub mod HeldValues
 pub mod Loaded
+pub mod NoStore
 pub mod OpenLemmas
 pub mod Searches
 pub mod SoundFiles
