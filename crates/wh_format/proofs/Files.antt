@@ -1,8 +1,8 @@
 -- The two files, as those of a store and as those of a run.
-use Rattle.std.proofs.Common.{◌≡◌, ℕ, ◌^◌, ◌<◌, ◌+◌, Bool, true, false, true≢false, ◌&&◌, ◌||◌, nat_lt, nat_le, List, [], ◌∷◌, length, None, Some, Ok, refl, sym, ◌∙◌, subst, arith}
+use Rattle.std.proofs.Common.{◌≡◌, ℕ, ◌^◌, ◌<◌, ◌+◌, Bool, true, false, nat_lt, nat_le, List, [], ◌∷◌, length, None, Some, Ok, refl, sym, subst, arith}
 use Rattle.std.proofs.lemmas.Bool.{and_parts, or_parts, ltb-false, leb-false}
 use Rattle.wh_format.specs.Format.{file_for}
-use Rattle.wh_journal.specs.File.{framed, frames_of, is_empty, end_of}
+use Rattle.wh_journal.specs.File.{frames_of, is_empty, end_of}
 use Rattle.wh_journal.proofs.Torn.{open_frames}
 use Rattle.wh_journal.proofs.Walks.{end_closed, walk_shut}
 use Rattle.wh_runs.specs.Outcome.{Contents}
@@ -12,8 +12,8 @@ use Rattle.wh_schema.specs.Warehouse.{Row}
 use Rattle.wh_spec_text.specs.Printed.{spec_text}
 use Rattle.wh_store.specs.declared.warehouse.Which.{Which}
 use Rattle.wh_store.specs.declared.warehouse.Which.TheVariants.{First, Second}
-use Rattle.wh_store.specs.Commit.{held_with, other_of}
-use Rattle.wh_store.specs.Image.{Active, Holding, holding}
+use Rattle.wh_store.specs.Commit.{held_with}
+use Rattle.wh_store.specs.Image.{Active, holding}
 use Rattle.wh_store.specs.Store.{are_empty, is_too_large, loaded_body, loaded_file}
 use Rattle.wh_store.specs.Warehouse.{file_in}
 use Rattle.wh_store.proofs.CommitLemmas.{image_in}

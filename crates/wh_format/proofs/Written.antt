@@ -1,12 +1,12 @@
 -- What the bytes of a change mean.
-use Rattle.std.proofs.Common.{◌≡◌, ℕ, ◌+◌, ◌<◌, ◌^◌, false, List, [], ◌∷◌, ◌++◌, length, take, None, Some, Ok, Err, refl, sym, ◌∙◌, ap, subst, arith}
+use Rattle.std.proofs.Common.{◌≡◌, ℕ, ◌+◌, ◌<◌, ◌^◌, true, List, ◌∷◌, length, take, None, Some, Ok, Err, refl, sym, ◌∙◌, ap, subst, arith}
 use Rattle.std.proofs.lemmas.Bool.{ltb-false}
 use Rattle.std.proofs.lemmas.List.{length-append, length-take}
 use Rattle.wh_base.specs.declared.value.Delta.{Delta}
 use Rattle.wh_format.specs.Format.{Change, loads, refreshes, MayLoad, MayRefresh, MayWrite, active, active_in, bytes_with, changed, file_for, may_write, meaning, store_format}
 use Rattle.wh_format.specs.Laws.{AddsFrame, EmptyMeansNone}
 use Rattle.wh_format.proofs.Files.{end_is, held_is, load_frames, none_empty, other_put, part_is, part_put, second_empty, text_short}
-use Rattle.wh_journal.specs.File.{end_of, framed, frames_of}
+use Rattle.wh_journal.specs.File.{end_of, framed, frames_of, is_empty}
 use Rattle.wh_journal.specs.Journal.{appended, with_frame}
 use Rattle.wh_journal.proofs.Framing.{length-framed}
 use Rattle.wh_journal.proofs.Torn.{end_within, open_end, open_frames}
@@ -16,11 +16,9 @@ use Rattle.wh_runs.specs.Disks.{part, with_part}
 use Rattle.wh_runs.specs.Program.{Manner, in_place, moves, put}
 use Rattle.wh_schema.specs.declared.spec.Spec.{Spec}
 use Rattle.wh_schema.specs.Warehouse.{Row}
-use Rattle.wh_store.specs.declared.warehouse.Which.{Which}
-use Rattle.wh_store.specs.Commit.{active_with, change_body, held_with}
-use Rattle.wh_store.specs.Image.{Active, Holding, Image, holding}
+use Rattle.wh_store.specs.Commit.{active_with, change_body}
+use Rattle.wh_store.specs.Image.{Active, Holding, holding}
 use Rattle.wh_store.specs.Store.{loaded, loaded_file}
-use Rattle.wh_store.specs.Warehouse.{file_in}
 use Rattle.wh_store.proofs.CommitLemmas.{held_more}
 use Rattle.wh_store.proofs.NoStore.{empty_holds}
 use Rattle.wh_store.proofs.Loaded.{alone_holds, spelled_snapshot}
@@ -33,12 +31,12 @@ empty_none = record {
 
 -- ---- a load
 
-load_means : (spec : Spec) (tables : List (List Row)) → MayLoad spec tables → (second : List ℕ) → holding [] second ≡ Ok None → holding (loaded_file spec tables) second ≡ Ok (Some (loaded spec tables))
-load_means spec tables may second none =
+load_means : (spec : Spec) (tables : List (List Row)) → MayLoad spec tables → (second : List ℕ) → is_empty second ≡ true → holding (loaded_file spec tables) second ≡ Ok (Some (loaded spec tables))
+load_means spec tables may second empty =
     let held = may.held in
     alone_holds spec tables held.textual held.pieces held.fits held.under
     (spelled_snapshot spec tables held.textual held.fits held.under held.ascending may.spelled (text_short spec tables may.fits))
-    (loaded_file spec tables) second (load_frames spec tables may.fits) (second_empty [] second none)
+    (loaded_file spec tables) second (load_frames spec tables may.fits) empty
 
 -- ---- a refresh
 
@@ -85,7 +83,7 @@ abbrev put_over : Holding → Change → Contents → Contents
 put_over held change c = with_part (active_in held) (bytes_with change held (part (active_in held) c)) c
 
 means_over : (held : Holding) (change : Change) (c : Contents) → meaning c ≡ held → MayWrite change held → meaning (put_over held change c) ≡ changed change held
-means_over (Ok None) (loads spec tables) c is may = load_means spec tables may c.second (empty_holds [] c.second (second_empty c.first c.second is))
+means_over (Ok None) (loads spec tables) c is may = load_means spec tables may c.second (second_empty c.first c.second is)
 means_over (Ok None) (refreshes deltas) c is may = absurd may
 means_over (Ok (Some active)) (loads spec tables) c is may = absurd may
 means_over (Ok (Some active)) (refreshes deltas) c is may = refresh_means active deltas c is may

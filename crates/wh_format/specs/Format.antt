@@ -1,5 +1,5 @@
 -- The two files of a store as a format of runs: what they are held to mean, and how a change of that is written.
-use Rattle.std.specs.Prelude.{◌≡◌, ℕ, ◌+◌, ◌-◌, ◌^◌, ◌<◌, true, false, List, [], None, Some, Ok}
+use Rattle.std.specs.Prelude.{◌≡◌, ℕ, ◌+◌, ◌-◌, ◌^◌, ◌<◌, false, List, [], None, Some, Ok}
 use Rattle.std.specs.List.{AllByRecursion}
 use Rattle.wh_base.specs.declared.value.Delta.{Delta}
 use Rattle.wh_codec.specs.Body.{IsSpelledRow}
