@@ -84,6 +84,7 @@ bytes_with (refreshes deltas) held bytes = bytes
 abbrev pub written : Change → Contents → List ℕ
 written change c = bytes_with change (meaning c) (part (active c) c)
 
+-- the format of both files
 abbrev pub store_format : Format
 store_format = record {
   Meaning = Holding;
