@@ -1,8 +1,8 @@
 #!/usr/bin/env bash
 # Checks the program that the gate has proved and built, over real files: that the demo prints what the README says and the
 # tour of the bookshop what the tutorial says, that a store is loaded once, that a generated case is made, that a stored table
-# of more than 4,000,000 rows is refused, and what comes of closed streams, pipes and interrupted calls. It takes some
-# seconds, and says where a tool is missing.
+# of more than 4,000,000 rows is refused, what checks on rows mark and refuse, and what comes of closed streams, pipes and
+# interrupted calls. It takes some seconds, and says where a tool is missing.
 # usage: checks/program.sh [PROGRAM]
 set -eu
 cd "$(dirname "$0")/.."
@@ -60,6 +60,64 @@ printf 'relation A(a int) key (a);\nrelation B(b int) key (b);\nview P = A join 
 { echo b; seq 2000; } >"$dir/dumps/B.csv"
 same "a table with too many rows" "$(printf 'status 10\nlimit: rows of P')" "$(run "$dir/large" load "$dir/spec.txt" "$dir/dumps")"
 same "the store that was not loaded" "" "$(ls "$dir/large")"
+
+# Checks on rows: the mark of a plan, and what a dump, a change and a specification are refused for.
+mkdir "$dir/checked"
+planned() {
+    printf '%s\n' "$@" >"$dir/spec.txt"
+    run "$dir/checked" plan "$dir/spec.txt"
+}
+emp='relation Emp(clerk text, age int) key (clerk);'
+grown='view Grown = Emp where age >= 18;'
+adult='check Adult in Emp where age >= 18;'
+lines=$(printf '%s\n' 'order: Emp' 'relation Emp' 'piece 1: project (clerk, age) Grown' 'cover: 1' 'inverse: C_Emp union project (clerk, age) Grown')
+plan() { printf '%s\n' 'status 0' "$lines" "always empty: $1" 'key probes: 2'; }
+same "a plan without a check" "$(plan no)" "$(planned "$emp" "$grown")"
+same "a check that is another tree" "$(plan no)" "$(planned "$emp" 'check Adult in Emp where 18 <= age;' "$grown")"
+both='age >= 18 and age < 99'
+same "a check that is an and" "$(plan no)" "$(planned "$emp" "check Adult in Emp where $both;" "view Grown = Emp where $both;")"
+same "a check for each conjunct" "$(plan yes)" "$(planned "$emp" "$adult" 'check Young in Emp where age < 99;' "view Grown = Emp where $both;")"
+same "a plan with a check" "$(plan yes)" "$(planned "$emp" "$adult" "$grown")"
+
+fails='check 2 Adult Emp(clerk) fails (Tim)'
+printf 'clerk,age\nTim,17\n' >"$dir/dumps/Emp.csv"
+same "a show of rows that break a check" "$(printf 'status 1\nrefused: %s' "$fails")" "$(run "$dir/checked" show "$dir/spec.txt" "$dir/dumps")"
+same "a load of rows that break a check" "$(printf 'status 1\nrefused: %s' "$fails")" "$(run "$dir/checked" load "$dir/spec.txt" "$dir/dumps")"
+printf 'clerk,age\n' >"$dir/dumps/Emp.csv"
+same "a load with a check" "$(printf 'status 0\nloaded: tables 2, rows 0')" "$(run "$dir/checked" load "$dir/spec.txt" "$dir/dumps")"
+echo '+,Emp,Tim,17' >"$dir/d.csv"
+same "a change that breaks a check" "$(printf 'status 1\n%s: refused, %s' "$dir/d.csv" "$fails")" "$(run "$dir/checked" refresh "$dir/d.csv")"
+printf '+,Emp,Zoe,3\n+,Emp,Tim,18\n+,Emp,Ann,5\n' >"$dir/d.csv"
+same "the least key of two that break a check" "$(printf 'status 1\n%s: refused, check 2 Adult Emp(clerk) fails (Ann)' "$dir/d.csv")" "$(run "$dir/checked" refresh "$dir/d.csv")"
+printf '+,Emp,Ann,17\n+,Emp,Tim,18\n-,Emp,Ann,17\n' >"$dir/d.csv"
+same "a change that breaks no check in the end" "$(printf 'status 0\n%s: refresh 1, sources -0 +1, stored -0 +1' "$dir/d.csv")" "$(run "$dir/checked" refresh "$dir/d.csv")"
+
+# A row that breaks a key, an inclusion and a check at once.
+printf '%s\n' 'relation Dept(dept text) key (dept);' 'relation Emp(clerk text, age int, dept text) key (clerk);' \
+    "$adult" 'inclusion Emp(dept) in Dept(dept);' >"$dir/spec.txt"
+printf 'dept\nA\n' >"$dir/dumps/Dept.csv"
+printf 'clerk,age,dept\nTim,20,A\n' >"$dir/dumps/Emp.csv"
+mkdir "$dir/three"
+same "a load of two relations with a check" "$(printf 'status 0\nloaded: tables 2, rows 2')" "$(run "$dir/three" load "$dir/spec.txt" "$dir/dumps")"
+for row in 'Tim,17,B: key 2 Emp(clerk) twice (Tim)' 'Zoe,17,B: inclusion 3 Emp(dept) in Dept(dept) lacks (B)' 'Zoe,17,A: check 4 Adult Emp(clerk) fails (Zoe)'; do
+    echo "+,Emp,${row%%: *}" >"$dir/d.csv"
+    same "a change by the row ${row%%: *}" "$(printf 'status 1\n%s: refused, %s' "$dir/d.csv" "${row#*: }")" "$(run "$dir/three" refresh "$dir/d.csv")"
+done
+
+# What is refused of a check statement, and what just passes.
+fault() { printf 'status 3\nspec: statement %s' "$1"; }
+checks() { for n in $(seq "$1"); do echo "check c$n in Emp where age >= 0;"; done; }
+nodes() { printf 'not age = 1'; for n in $(seq 499); do printf ' and age = 1'; done; }
+long=$(printf 'c%.0s' $(seq 64))
+same "64 checks" "$(plan no)" "$(planned "$emp" "$grown" "$(checks 64)")"
+same "65 checks" "$(fault '67: limit: checks')" "$(planned "$emp" "$grown" "$(checks 65)")"
+same "a check's name of 64 bytes" "$(plan no)" "$(planned "$emp" "$grown" "check $long in Emp where age >= 0;")"
+same "a check's name of 65 bytes" "$(fault '3: limit: name')" "$(planned "$emp" "$grown" "check c$long in Emp where age >= 0;")"
+same "a check's name that comes again" "$(fault '4: repeated name Emp')" "$(planned "$emp" "$grown" 'check Emp in Emp where age >= 0;' 'check Emp in Emp where age >= 1;')"
+same "a check over a view" "$(fault '3: unknown relation Grown')" "$(planned "$emp" "$grown" 'check c in Grown where age >= 0;')"
+same "a check that is not typed" "$(fault '3: bad check')" "$(planned "$emp" "$grown" "check c in Emp where age >= 'x';")"
+same "a check of 1,000 nodes" "$(plan no)" "$(planned "$emp" "$grown" "check c in Emp where $(nodes);")"
+same "a check of 1,001 nodes" "$(fault '3: limit: nodes')" "$(planned "$emp" "$grown" "check c in Emp where not $(nodes);")"
 
 # Standard streams that are closed or full. The store is none of them: what was done stands, and what was there stays.
 sales=examples/sales

@@ -1,6 +1,7 @@
 pub mod Asks
 pub mod Audits
 pub mod Commands
+mod Constraints
 pub mod Counts
 pub mod Dumps
 pub mod Fitting

@@ -1,13 +1,17 @@
 -- The words of refusals.
-use Rattle.std.specs.Prelude.{ℕ, ◌-◌, nat_lt, if◌then◌else◌, List, ◌++◌, length, codes, decimal}
+use Rattle.std.specs.Prelude.{ℕ, ◌-◌, nat_lt, if◌then◌else◌, List, [], ◌++◌, length, Option, Some, None, codes, decimal}
 use Rattle.wh_base.specs.Lines.{separated, csv_record}
 use Rattle.wh_csv.specs.declared.fault.CsvCause.{CsvCause}
 use Rattle.wh_csv.specs.Words.{cause_words}
 use Rattle.wh_schema.specs.declared.broken.Broken.{Broken}
+use Rattle.wh_schema.specs.declared.constraint.Constraint.{Constraint}
+use Rattle.wh_schema.specs.declared.constraint.Constraint.TheVariants as constraint
+use Rattle.wh_schema.specs.declared.spec.Check.{Check}
 use Rattle.wh_schema.specs.declared.spec.Inclusion.{Inclusion}
 use Rattle.wh_schema.specs.declared.spec.Relation.{Relation}
 use Rattle.wh_schema.specs.declared.spec.Spec.{Spec}
-use Rattle.wh_schema.specs.Warehouse.{relation_at, view_at, inclusion_at}
+use Rattle.wh_schema.specs.Constraints.{constraint_at}
+use Rattle.wh_schema.specs.Warehouse.{check_at, inclusion_at, relation_at, view_at}
 
 -- a dump outside its grammar
 abbrev pub dump_words : List ℕ → ℕ → CsvCause → List ℕ
@@ -54,9 +58,18 @@ inclusion_words spec c b =
     number_words (codes "inclusion ") b.constraint ++ columns_words (relation_at spec c.from).name c.from_cols
     ++ codes " in " ++ columns_words (relation_at spec c.to).name c.to_cols ++ value_words (codes " lacks (") b
 
--- constraints are numbered from 1: keys in relation order, then inclusions in declared order
+abbrev pub check_words : Spec → Check → Broken → List ℕ
+check_words spec c b =
+    let relation = relation_at spec c.relation in
+    number_words (codes "check ") b.constraint ++ c.name ++ codes " " ++ columns_words relation.name relation.key ++ value_words (codes " fails (") b
+
+-- the words of a broken constraint
+abbrev pub constraint_words : Spec → Option Constraint → Broken → List ℕ
+constraint_words spec None b = []
+constraint_words spec (Some (constraint.Key i)) b = key_words (relation_at spec i) b
+constraint_words spec (Some (constraint.Inclusion k)) b = inclusion_words spec (inclusion_at spec k) b
+constraint_words spec (Some (constraint.Check k)) b = check_words spec (check_at spec k) b
+
+-- by the number of the constraint
 abbrev pub broken_words : Spec → Broken → List ℕ
-broken_words spec b =
-    if nat_lt (b.constraint - 1) (length spec.relations)
-    then key_words (relation_at spec (b.constraint - 1)) b
-    else inclusion_words spec (inclusion_at spec (b.constraint - 1 - length spec.relations)) b
+broken_words spec b = constraint_words spec (constraint_at spec b.constraint) b

@@ -1,18 +1,19 @@
 // The words of a command's refusals.
 ghost use Rattle.std.specs.Prelude.{◌≡◌, ◌++◌, IfOk, OnOk, codes, decimal};
 ghost use Rattle.wh_csv.specs.Words.{cause_words};
-ghost use Rattle.wh_schema.specs.Warehouse.{no_inclusion, relation_at, inclusion_at};
+ghost use Rattle.wh_schema.specs.Warehouse.{relation_at};
 ghost use Rattle.wh_spec_text.specs.SpecTexts.{fault_words};
-ghost use Rattle.wh_command.specs.Words.{list_words, columns_words, number_words, value_words, key_words, inclusion_words, broken_words, dump_words, pieces_words, rows_words, warehouse_file_words};
+ghost use Rattle.wh_command.specs.Words.{list_words, columns_words, number_words, value_words, key_words, inclusion_words, check_words, broken_words, dump_words, pieces_words, rows_words, warehouse_file_words};
 ghost use Rattle.wh_query_text.specs.QueryTexts.{fault_words as query_fault_words};
 ghost use Rattle.wh_command.specs.Ask.{damage_words, unknown_words};
 
 use itoa::Buffer;
 use std::alloc::Global;
 use wh_base::{ByteText, Bytes, Name, Names, NoMemory, put_names, put_record};
+use wh_covers::{check_at, inclusion_at};
 use wh_csv::CsvCause;
 use wh_query_text::{QueryFault, put_query_fault};
-use wh_schema::{Broken, Inclusion, Relation, Spec};
+use wh_schema::{Broken, Check, Constraint, Inclusion, Spec, constraint_at};
 use wh_spec_text::{SpecTextFault, put_spec_fault};
 use wh_store::Which;
 
@@ -127,12 +128,12 @@ fn put_value(
     out.append(b")")
 }
 
-fn key_broken(alloc: Global, relation: &Relation, broken: &Broken) -> Result<Bytes, NoMemory>
-    ensures { IfOk result (λ words. words ≡ key_words relation.now broken.now) }
+fn key_broken(alloc: Global, spec: &Spec, number: u32, broken: &Broken) -> Result<Bytes, NoMemory>
+    ensures { IfOk result (λ words. words ≡ key_words (relation_at spec.now number) broken.now) }
 {
     let mut out = ByteText::new(alloc);
     put_constraint(&mut out, b"key ", broken.constraint)?;
-    put_columns(&mut out, &relation.name, &relation.key)?;
+    put_key(&mut out, spec, number)?;
     put_value(alloc, &mut out, b" twice (", broken)?;
     Ok(out.into_bytes())
 }
@@ -154,11 +155,39 @@ fn inclusion_broken(
     Ok(out.into_bytes())
 }
 
+fn check_broken(
+    alloc: Global,
+    spec: &Spec,
+    check: &Check,
+    broken: &Broken,
+) -> Result<Bytes, NoMemory>
+    ensures { IfOk result (λ words. words ≡ check_words spec.now check.now broken.now) }
+{
+    let mut out = ByteText::new(alloc);
+    put_constraint(&mut out, b"check ", broken.constraint)?;
+    out.append(check.name.as_slice())?;
+    out.append(b" ")?;
+    put_key(&mut out, spec, check.relation)?;
+    put_value(alloc, &mut out, b" fails (", broken)?;
+    Ok(out.into_bytes())
+}
+
 fn put_side(out: &mut ByteText, spec: &Spec, relation: u32, columns: &Names) -> Result<(), NoMemory>
     ensures { OnOk result (out.new.bytes ≡ out.old.bytes ++ columns_words (relation_at spec.now relation).name columns.now) }
 {
     put_relation_name(out, spec, relation as usize)?;
     put_list(out, columns)
+}
+
+// A relation's name with the columns of its key.
+#[tactic(auto, using(crate::proofs::Numbered::get_or_none))]
+fn put_key(out: &mut ByteText, spec: &Spec, number: u32) -> Result<(), NoMemory>
+    ensures { OnOk result (let relation = relation_at spec.now number in out.new.bytes ≡ out.old.bytes ++ columns_words relation.name relation.key) }
+{
+    match spec.relations.get(number as usize) {
+        Some(relation) => put_columns(out, &relation.name, &relation.key),
+        None => out.append(b"()"),
+    }
 }
 
 #[tactic(auto, using(crate::proofs::Numbered::get_or_none))]
@@ -171,41 +200,19 @@ fn put_relation_name(out: &mut ByteText, spec: &Spec, relation: usize) -> Result
     }
 }
 
-/// `key K REL(COLS) twice (VALUES)` or `inclusion K REL(COLS) in REL(COLS) lacks (VALUES)`.
+/// `key K REL(COLS) twice (VALUES)`, `inclusion K REL(COLS) in REL(COLS) lacks (VALUES)` or `check K NAME REL(COLS) fails (VALUES)`.
 pub fn broken(alloc: Global, spec: &Spec, broken: &Broken) -> Result<Bytes, NoMemory>
     ensures { IfOk result (λ words. words ≡ broken_words spec.now broken.now) }
 {
-    let number = broken.constraint.saturating_sub(1) as usize;
-    match spec.relations.get(number) {
-        Some(relation) => key_broken(alloc, relation, broken),
-        None => numbered_broken(alloc, spec, number - spec.relations.len(), broken),
-    }
-}
-
-#[tactic(auto, using(crate::proofs::Numbered::get_or_none))]
-fn numbered_broken(
-    alloc: Global,
-    spec: &Spec,
-    number: usize,
-    broken: &Broken,
-) -> Result<Bytes, NoMemory>
-    ensures { IfOk result (λ words. words ≡ inclusion_words spec.now (inclusion_at spec.now number) broken.now) }
-{
-    match spec.inclusions.get(number) {
-        Some(inclusion) => inclusion_broken(alloc, spec, inclusion, broken),
-        None => inclusion_broken(alloc, spec, &no_inclusion(alloc), broken),
-    }
-}
-
-// What a number past the last inclusion reads as, which no broken constraint has.
-fn no_inclusion(alloc: Global) -> Inclusion
-    ensures { result ≡ no_inclusion }
-{
-    Inclusion {
-        from: 0,
-        from_cols: Names::new(alloc),
-        to: 0,
-        to_cols: Names::new(alloc),
+    match constraint_at(spec, broken.constraint) {
+        Some(Constraint::Key { relation }) => key_broken(alloc, spec, relation, broken),
+        Some(Constraint::Inclusion { number }) => {
+            inclusion_broken(alloc, spec, inclusion_at(spec, number), broken)
+        }
+        Some(Constraint::Check { number }) => {
+            check_broken(alloc, spec, check_at(spec, number), broken)
+        }
+        None => Ok(Bytes::new(alloc)),
     }
 }
 

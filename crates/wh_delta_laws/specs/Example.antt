@@ -28,7 +28,7 @@ abbrev pub selling : View
 selling = record { name = []; relations = 1 ∷ 0 ∷ []; cond = Always; head = clerk ∷ age ∷ [] }
 
 abbrev pub sellers : Spec
-sellers = record { relations = clerks ∷ sales ∷ []; inclusions = by_a_clerk ∷ []; views = selling ∷ [] }
+sellers = record { relations = clerks ∷ sales ∷ []; inclusions = by_a_clerk ∷ []; checks = []; views = selling ∷ [] }
 
 -- the state where one of John's two sales is taken back
 abbrev pub one_sale_less : State
@@ -57,7 +57,7 @@ abbrev pub goods : Relation
 goods = record { name = []; attrs = record { name = item; kind = kind.Text } ∷ []; key = item ∷ [] }
 
 abbrev pub chain : Spec
-chain = record { relations = people ∷ goods ∷ sales ∷ []; inclusions = []; views = [] }
+chain = record { relations = people ∷ goods ∷ sales ∷ []; inclusions = []; checks = []; views = [] }
 
 -- the view of some of its relations
 abbrev pub over : List ℕ → View

@@ -15,6 +15,7 @@ use Rattle.wh_base.specs.Columns.{name_eq, names_of}
 use Rattle.wh_base.specs.Cond.{kind_of, faults}
 use Rattle.wh_schema.specs.declared.fault.SpecFault.{SpecFault}
 use Rattle.wh_schema.specs.declared.fault.SpecCause.TheVariants.{BadInclusion}
+use Rattle.wh_schema.specs.declared.raw.RawCheck.{RawCheck}
 use Rattle.wh_schema.specs.declared.raw.RawInclusion.{RawInclusion}
 use Rattle.wh_schema.specs.declared.raw.RawRelation.{RawRelation}
 use Rattle.wh_schema.specs.declared.raw.RawStatement.{RawStatement}
@@ -229,11 +230,22 @@ module _ (spec : Spec) (c : RawInclusion) (e : rule_faults spec (statement.Inclu
             ];
       }
 
+-- ---- a further check
+
+with_check : (spec : Spec) (c : RawCheck) → IsKinded spec → IsKinded (added spec (statement.Check c))
+with_check spec c h = record {
+  one_kind = h.one_kind;
+  narrow = h.narrow;
+  heads = h.heads;
+  sides = λ x k. let f = h.sides x k in record { from = f.from; to = f.to; kinds = f.kinds };
+}
+
 -- ---- all statements
 
 added_kinded : (spec : Spec) (s : RawStatement) → rule_faults spec s ≡ [] → IsKinded spec → IsKinded (added spec s)
 added_kinded spec (statement.Relation r) e h = with_relation spec r e h
 added_kinded spec (statement.Inclusion c) e h = with_inclusion spec c e h
+added_kinded spec (statement.Check c) e h = with_check spec c h
 added_kinded spec (statement.View v) e h = with_view spec v e h
 
 both_steps : (o : Result Spec SpecFault) (f : Spec → Result Spec SpecFault) (t : Spec) → and_then o f ≡ Ok t → (m : Spec) × (o ≡ Ok m) × (f m ≡ Ok t)

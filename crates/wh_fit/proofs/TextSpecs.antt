@@ -37,6 +37,7 @@ some_names (n ∷ names) h = λ e. absurd cc
 has_parts : (s : RawStatement) → HasWords s → HasParts s
 has_parts (statements.Relation r) h = some_attrs r.attrs h.1
 has_parts (statements.Inclusion c) h = tt
+has_parts (statements.Check c) h = tt
 has_parts (statements.View v) h = some_names v.relations h.2
 
 -- the specification of a text

@@ -112,7 +112,7 @@ module _ (spec : Spec) (s : State) where
 -- ---- the constraints of a specification
 
 -- its relation, inclusion or check is one of the specification's
-pub Numbers : Spec → Constraint → Type 0
+unfoldable pub Numbers : Spec → Constraint → Type 0
 Numbers spec (constraint.Key i) = i < length spec.relations
 Numbers spec (constraint.Inclusion k) = k < length spec.inclusions
 Numbers spec (constraint.Check k) = k < length spec.checks

@@ -1,4 +1,5 @@
 mod BreakLemmas
+mod CheckedLemmas
 pub mod DistinctLemmas
 mod EvaluationLemmas
 pub mod LimitLemmas

@@ -2,6 +2,7 @@
 #![tactic(auto)]
 
 mod broken;
+mod checked;
 mod complements;
 mod fault;
 mod limit;

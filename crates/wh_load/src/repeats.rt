@@ -1,4 +1,4 @@
-ghost use Rattle.std.specs.Prelude.{◌≡◌, ◌<◌, ◌||◌, length, List, map, get_or, [], IfOk, OnOk};
+ghost use Rattle.std.specs.Prelude.{◌≡◌, ◌||◌, List, map, get_or, [], IfOk, OnOk};
 ghost use Rattle.indexmap.specs.IndexSet.{contains};
 ghost use Rattle.wh_base.specs.declared.value.Value.{Value};
 ghost use Rattle.wh_base.specs.Columns.{picked};
@@ -7,11 +7,10 @@ ghost use Rattle.wh_base.specs.Value.{row_eq};
 ghost use Rattle.wh_load.specs.Repeats.{comes_twice};
 ghost use Rattle.wh_schema.specs.Constraints.{repeated_keys, missing_values};
 
-use crate::source::{columns_of, rows_of, values_at};
+use crate::source::{columns_of, key_of, rows_of, values_at};
 use indexmap::IndexSet;
 use std::alloc::Global;
 use wh_base::{NoMemory, Row, Rows, State, pick_at, places_of};
-use wh_covers::relation_at;
 use wh_eval::without;
 use wh_schema::{Inclusion, Spec};
 
@@ -40,13 +39,11 @@ fn repeats(alloc: Global, rows: &[Row], places: &[usize]) -> Result<Rows, NoMemo
 
 /// The key values that different rows of a relation carry.
 pub fn repeated_keys(alloc: Global, spec: &Spec, s: &State, relation: u32) -> Result<Rows, NoMemory>
-    requires relation { relation < length spec.now.relations }
-    requires distinct { AreDistinct (get_or s.now relation []) }
+    requires { AreDistinct (get_or s.now relation []) }
     ensures { IfOk result (λ keys. SameRows keys (repeated_keys spec.now s.now relation)) }
 {
     let columns = columns_of(alloc, spec, relation)?;
-    let key = &relation_at(spec, relation).key;
-    let places = places_of(alloc, columns.as_slice(), key.as_slice())?;
+    let places = places_of(alloc, columns.as_slice(), key_of(spec, relation))?;
     repeats(alloc, rows_of(s, relation), places.as_slice())
 }
 

@@ -1,9 +1,9 @@
 ghost use Rattle.std.specs.Prelude.{◌≡◌, [], map, get_or, IfOk};
 ghost use Rattle.wh_base.specs.Columns.{cut};
-ghost use Rattle.wh_schema.specs.Warehouse.{columns_of};
+ghost use Rattle.wh_schema.specs.Warehouse.{columns_of, key_of};
 
 use std::alloc::Global;
-use wh_base::{Duplicate, Names, NoMemory, Row, Rows, State, names_of, places_of};
+use wh_base::{Duplicate, Name, Names, NoMemory, Row, Rows, State, names_of, places_of};
 use wh_eval::pick_all;
 use wh_schema::Spec;
 
@@ -14,6 +14,16 @@ pub fn columns_of(alloc: Global, spec: &Spec, relation: u32) -> Result<Names, No
     match spec.relations.get(relation as usize) {
         Some(found) => names_of(alloc, &found.attrs),
         None => Ok(Names::new(alloc)),
+    }
+}
+
+/// The key names of a relation; none where there is no such relation.
+pub fn key_of(spec: &Spec, relation: u32) -> &[Name]
+    ensures { result.now ≡ key_of spec.now relation }
+{
+    match spec.relations.get(relation as usize) {
+        Some(found) => found.key.as_slice(),
+        None => &[],
     }
 }
 

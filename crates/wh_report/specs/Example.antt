@@ -15,6 +15,7 @@ abbrev pub shop : Spec
 shop = record {
   relations = record clerks { name = codes "Emp" } ∷ record sales { name = codes "Sale" } ∷ [];
   inclusions = by_a_clerk ∷ [];
+  checks = [];
   views = record (sold Always) { name = codes "Sold" } ∷ [];
 }
 

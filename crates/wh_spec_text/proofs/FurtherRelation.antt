@@ -7,6 +7,7 @@ use Rattle.std.proofs.Math.Seq.{get_or-append_seam, take-append_seam}
 use Rattle.wh_base.specs.declared.value.Attr.{Attr}
 use Rattle.wh_base.specs.Columns.{name_eq, is_in, place_of}
 use Rattle.wh_schema.specs.declared.fault.SpecCause.{SpecCause}
+use Rattle.wh_schema.specs.declared.raw.RawCheck.{RawCheck}
 use Rattle.wh_schema.specs.declared.raw.RawInclusion.{RawInclusion}
 use Rattle.wh_schema.specs.declared.raw.RawRelation.{RawRelation}
 use Rattle.wh_schema.specs.declared.raw.RawStatement.TheVariants as statement
@@ -18,7 +19,7 @@ use Rattle.wh_schema.specs.declared.spec.View.{View}
 use Rattle.wh_schema.specs.Cycles.{closed_cycle}
 use Rattle.wh_schema.specs.Legality.{LeadsTo, here, along, WellFormed}
 use Rattle.wh_schema.specs.Rules as Rules
-use Rattle.wh_schema.specs.Rules.{broken_if, broken_by, relation_names, view_names, number_of, members, member_attrs, joined_attrs, relation_of, inclusion_of, view_of, added, attrs_of, cyclic, cyclic_if, rule_faults}
+use Rattle.wh_schema.specs.Rules.{broken_if, broken_by, relation_names, view_names, number_of, members, member_attrs, joined_attrs, relation_of, inclusion_of, check_of, view_of, added, attrs_of, cyclic, cyclic_if, rule_faults}
 use Rattle.wh_schema.specs.Warehouse.{no_relation, no_inclusion, relation_at}
 use Rattle.wh_schema.proofs.Accepted.{no_left, no_right, not_broken}
 use Rattle.wh_laws.specs.Acceptance.{IsPath, IsFirstOf}
@@ -140,6 +141,29 @@ module _ (u : Spec) (r : RawRelation) (c : RawInclusion) (e : rule_faults u (sta
       let cycle : cyclic more c ≡ [] = rw (number_stays u r c.from from_known, number_stays u r c.to to_known, none) refl in
       both_empty (Rules.inclusion_name_faults more c ++ Rules.bad_inclusion (attrs_of more c.from) (attrs_of more c.to) c) (cyclic more c)
       (both_empty (Rules.inclusion_name_faults more c) (Rules.bad_inclusion (attrs_of more c.from) (attrs_of more c.to) c) names columns) cycle
+
+-- ---- checks
+
+module _ (u : Spec) (r : RawRelation) (c : RawCheck) (e : rule_faults u (statement.Check c) ≡ []) where
+  check_rules : Rules.check_name_faults u c ≡ []
+  check_rules = no_left _ (Rules.check_shape_faults (attrs_of u c.relation) c) e
+
+  known_checked : Rules.first_unknown (relation_names u) (c.relation ∷ []) ≡ None
+  known_checked = not_found _ _ (no_right _ (Rules.unknown_checked u c) check_rules)
+
+  pub checked_known : Contains (relation_names u) c.relation
+  checked_known = all_known (relation_names u) (c.relation ∷ []) known_checked c.relation (Contains-here c.relation [])
+
+  pub same_check : check_of (with u r) c ≡ check_of u c
+  same_check = rw (number_stays u r c.relation checked_known) refl
+
+  pub check_still : rule_faults (with u r) (statement.Check c) ≡ []
+  check_still =
+      let more = with u r in
+      let firsts = Rules.too_many_checks u ++ Rules.too_long_name (Rules.check_words c) ++ Rules.repeated_check u c in
+      let names = both_empty firsts (Rules.unknown_checked more c) (no_left firsts (Rules.unknown_checked u c) check_rules) (unfound (Rules.first_unknown (relation_names more) (c.relation ∷ [])) _ (known_still u r (c.relation ∷ []) known_checked)) in
+      let shape : Rules.check_shape_faults (attrs_of more c.relation) c ≡ [] = rw (attrs_stay u r c.relation checked_known) (no_right (Rules.check_name_faults u c) _ e) in
+      both_empty (Rules.check_name_faults more c) (Rules.check_shape_faults (attrs_of more c.relation) c) names shape
 
 -- ---- views
 

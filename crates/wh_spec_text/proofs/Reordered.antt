@@ -1,4 +1,4 @@
--- An accepted specification is accepted again in the order in which it is printed: relations, then inclusions, then views.
+-- An accepted specification is accepted again in the order in which it is printed: relations, then inclusions, then checks, then views.
 use Rattle.std.proofs.Common.{◌≡◌, ℕ, ◌+◌, ◌<◌, ◌≤◌, Bool, false, List, [], ◌∷◌, ◌++◌, map, length, Option, Some, None, Result, Ok, Err, Contains, refl, sym, ◌∙◌, ap, subst, inl, inr, arith}
 use Rattle.std.specs.Prelude.{nat_lt}
 use Rattle.std.specs.List.{list_any, AllByRecursion}
@@ -11,11 +11,13 @@ use Rattle.wh_base.specs.Columns.{name_eq, is_in, names_of}
 use Rattle.wh_base.specs.Cond.{faults, nodes, cond_names}
 use Rattle.wh_schema.specs.declared.fault.SpecCause.{SpecCause}
 use Rattle.wh_schema.specs.declared.fault.SpecFault.{SpecFault}
+use Rattle.wh_schema.specs.declared.raw.RawCheck.{RawCheck}
 use Rattle.wh_schema.specs.declared.raw.RawInclusion.{RawInclusion}
 use Rattle.wh_schema.specs.declared.raw.RawRelation.{RawRelation}
 use Rattle.wh_schema.specs.declared.raw.RawStatement.{RawStatement}
-use Rattle.wh_schema.specs.declared.raw.RawStatement.TheVariants.{Relation as RelationStatement, Inclusion as InclusionStatement, View as ViewStatement}
+use Rattle.wh_schema.specs.declared.raw.RawStatement.TheVariants.{Relation as RelationStatement, Inclusion as InclusionStatement, Check as CheckStatement, View as ViewStatement}
 use Rattle.wh_schema.specs.declared.raw.RawView.{RawView}
+use Rattle.wh_schema.specs.declared.spec.Check.{Check}
 use Rattle.wh_schema.specs.declared.spec.Inclusion.{Inclusion}
 use Rattle.wh_schema.specs.declared.spec.Relation.{Relation}
 use Rattle.wh_schema.specs.declared.spec.Spec.{Spec}
@@ -23,7 +25,7 @@ use Rattle.wh_schema.specs.declared.spec.View.{View}
 use Rattle.wh_schema.specs.Cycles.{closed_cycle}
 use Rattle.wh_schema.specs.Legality.{WellFormed}
 use Rattle.wh_schema.specs.Rules as Rules
-use Rattle.wh_schema.specs.Rules.{relation_names, view_names, number_of, members, member_attrs, head_or, written_head, relation_of, inclusion_of, view_of, added, attrs_of, cyclic, rule_faults, empty_spec, next, checked_from, checked, first_repeat, first_unknown, is_long}
+use Rattle.wh_schema.specs.Rules.{relation_names, view_names, number_of, members, member_attrs, head_or, written_head, relation_of, inclusion_of, check_of, view_of, added, attrs_of, cyclic, rule_faults, empty_spec, next, checked_from, checked, first_repeat, first_unknown, is_long}
 use Rattle.wh_schema.specs.Warehouse.{columns_of, relation_at}
 use Rattle.wh_schema.proofs.Accepted.{no_left, no_right, not_broken, next_ok}
 use Rattle.wh_laws.proofs.Acceptance.{not_found, joined_from}
@@ -33,10 +35,10 @@ use Rattle.wh_laws.proofs.Growth.{added_well}
 use Rattle.wh_laws.proofs.Lists.{Contains-nil, Contains-here, Contains-there, Contains-cases, Contains-is, any_in, map_in, map_same}
 use Rattle.wh_grammar.specs.Printable.{IsName}
 use Rattle.wh_grammar.proofs.Worded.{all_append}
-use Rattle.wh_spec_text.specs.Printed.{name_at, raw_relation, raw_inclusion, raw_view, raw_of_spec}
+use Rattle.wh_spec_text.specs.Printed.{name_at, raw_relation, raw_inclusion, raw_check, raw_view, raw_of_spec}
 use Rattle.wh_spec_text.specs.Textual.{AreNames, IsHead, HasWords, HasText}
 use Rattle.wh_spec_text.proofs.NameLists.{found_at, none_unknown, none_pass, once_in_join, first_in_join}
-use Rattle.wh_spec_text.proofs.FurtherRelation.{both_empty, unbroken, unfound, or_parts, with, known_number, relation_stays, none_back, no_cycle, from_known, to_known, same_inclusion, inclusion_still, members_known, same_view, view_still}
+use Rattle.wh_spec_text.proofs.FurtherRelation.{both_empty, unbroken, unfound, or_parts, with, known_number, relation_stays, none_back, no_cycle, from_known, to_known, same_inclusion, inclusion_still, checked_known, same_check, check_still, members_known, same_view, view_still}
 
 -- ---- statements that are accepted one after the other
 
@@ -67,7 +69,22 @@ inclusions_later u t r (InclusionStatement c ∷ ss) all h wf wf-more =
     let next-more : WellFormed (with (added u s) r) = subst WellFormed same (added_well (with u r) s still tt wf-more) in
     (still, subst (λ x. Accepts x ss (with t r)) (sym same) (inclusions_later (added u s) t r ss all.1 h.1 next-well next-more))
 inclusions_later u t r (RelationStatement c ∷ ss) all h wf wf-more = absurd all.0
+inclusions_later u t r (CheckStatement c ∷ ss) all h wf wf-more = absurd all.0
 inclusions_later u t r (ViewStatement c ∷ ss) all h wf wf-more = absurd all.0
+
+abbrev IsCheck : RawStatement → Type 0
+IsCheck (CheckStatement c) = Unit {0}
+IsCheck _ = ⊥
+
+checks_later : (u t : Spec) (r : RawRelation) (ss : List RawStatement) → AllByRecursion IsCheck ss → Accepts u ss t → Accepts (with u r) ss (with t r)
+checks_later u t r [] all h = ap (λ x. with x r) h
+checks_later u t r (CheckStatement c ∷ ss) all h =
+    let s = CheckStatement c in
+    let same : added (with u r) s ≡ with (added u s) r = ap (λ (d : Check). record (with u r) { checks = u.checks ++ d ∷ [] }) (same_check u r c h.0) in
+    (check_still u r c h.0, subst (λ x. Accepts x ss (with t r)) (sym same) (checks_later (added u s) t r ss all.1 h.1))
+checks_later u t r (RelationStatement c ∷ ss) all h = absurd all.0
+checks_later u t r (InclusionStatement c ∷ ss) all h = absurd all.0
+checks_later u t r (ViewStatement c ∷ ss) all h = absurd all.0
 
 -- a view with another name
 abbrev IsViewApart : RawRelation → RawStatement → Type 0
@@ -82,6 +99,7 @@ views_later u t r (ViewStatement v ∷ ss) all h =
     (view_still u r v h.0 all.0, subst (λ x. Accepts x ss (with t r)) (sym same) (views_later (added u s) t r ss all.1 h.1))
 views_later u t r (RelationStatement c ∷ ss) all h = absurd all.0
 views_later u t r (InclusionStatement c ∷ ss) all h = absurd all.0
+views_later u t r (CheckStatement c ∷ ss) all h = absurd all.0
 
 abbrev IsView : RawStatement → Type 0
 IsView (ViewStatement v) = Unit {0}
@@ -90,20 +108,43 @@ IsView _ = ⊥
 abbrev including : Spec → Inclusion → Spec
 including u d = record u { inclusions = u.inclusions ++ d ∷ [] }
 
--- no rule of a view speaks of inclusions
+-- no rule of a check speaks of inclusions
+checks_behind : (u t : Spec) (d : Inclusion) (ss : List RawStatement) → AllByRecursion IsCheck ss → Accepts u ss t → Accepts (including u d) ss (including t d)
+checks_behind u t d [] all h = ap (λ x. including x d) h
+checks_behind u t d (CheckStatement c ∷ ss) all h = (h.0, checks_behind (added u (CheckStatement c)) t d ss all.1 h.1)
+checks_behind u t d (RelationStatement c ∷ ss) all h = absurd all.0
+checks_behind u t d (InclusionStatement c ∷ ss) all h = absurd all.0
+checks_behind u t d (ViewStatement c ∷ ss) all h = absurd all.0
+
+-- and none of a view
 views_behind : (u t : Spec) (d : Inclusion) (ss : List RawStatement) → AllByRecursion IsView ss → Accepts u ss t → Accepts (including u d) ss (including t d)
 views_behind u t d [] all h = ap (λ x. including x d) h
 views_behind u t d (ViewStatement v ∷ ss) all h = (h.0, views_behind (added u (ViewStatement v)) t d ss all.1 h.1)
 views_behind u t d (RelationStatement c ∷ ss) all h = absurd all.0
 views_behind u t d (InclusionStatement c ∷ ss) all h = absurd all.0
+views_behind u t d (CheckStatement c ∷ ss) all h = absurd all.0
+
+abbrev checking : Spec → Check → Spec
+checking u d = record u { checks = u.checks ++ d ∷ [] }
+
+-- no rule of a view speaks of checks
+views_unchecked : (u t : Spec) (d : Check) (ss : List RawStatement) → AllByRecursion IsView ss → Accepts u ss t → Accepts (checking u d) ss (checking t d)
+views_unchecked u t d [] all h = ap (λ x. checking x d) h
+views_unchecked u t d (ViewStatement v ∷ ss) all h = (h.0, views_unchecked (added u (ViewStatement v)) t d ss all.1 h.1)
+views_unchecked u t d (RelationStatement c ∷ ss) all h = absurd all.0
+views_unchecked u t d (InclusionStatement c ∷ ss) all h = absurd all.0
+views_unchecked u t d (CheckStatement c ∷ ss) all h = absurd all.0
 
 -- ---- the parts of a specification
 
 abbrev relations_of : Spec → Spec
-relations_of t = record { relations = t.relations; inclusions = []; views = [] }
+relations_of t = record { relations = t.relations; inclusions = []; checks = []; views = [] }
+
+abbrev without_checks : Spec → Spec
+without_checks t = record { relations = t.relations; inclusions = t.inclusions; checks = []; views = [] }
 
 abbrev without_views : Spec → Spec
-without_views t = record { relations = t.relations; inclusions = t.inclusions; views = [] }
+without_views t = record { relations = t.relations; inclusions = t.inclusions; checks = t.checks; views = [] }
 
 relations_well : (t : Spec) → WellFormed t → WellFormed (relations_of t)
 relations_well t wf = record {
@@ -111,16 +152,18 @@ relations_well t wf = record {
   some_attribute = wf.some_attribute;
   key = wf.key;
   inclusions = λ c h. absurd (Contains-nil c h);
+  checks = λ c h. absurd (Contains-nil c h);
   views = λ v h. absurd (Contains-nil v h);
   acyclic = λ k h. absurd (omega arith);
 }
 
-without_views_well : (t : Spec) → WellFormed t → WellFormed (without_views t)
-without_views_well t wf = record {
+without_checks_well : (t : Spec) → WellFormed t → WellFormed (without_checks t)
+without_checks_well t wf = record {
   distinct = wf.distinct;
   some_attribute = wf.some_attribute;
   key = wf.key;
   inclusions = λ c h. let f = wf.inclusions c h in record { left = f.left; right = f.right; left_columns = f.left_columns; right_columns = f.right_columns; width = f.width; distinct = f.distinct };
+  checks = λ c h. absurd (Contains-nil c h);
   views = λ v h. absurd (Contains-nil v h);
   acyclic = wf.acyclic;
 }
@@ -134,10 +177,12 @@ back_again t (n ∷ names) known = rw (found_at t.relations n (known n (Contains
 pub record Kept (t : Spec) : Type 0 where
   pub well : WellFormed t
   pub relations : Accepts empty_spec (map raw_relation t.relations) (relations_of t)
-  pub inclusions : Accepts (relations_of t) (map (raw_inclusion t) t.inclusions) (without_views t)
+  pub inclusions : Accepts (relations_of t) (map (raw_inclusion t) t.inclusions) (without_checks t)
+  pub checks : Accepts (without_checks t) (map (raw_check t) t.checks) (without_views t)
   pub views : Accepts (without_views t) (map (raw_view t) t.views) t
   pub relation_texts : AllByRecursion HasText (map raw_relation t.relations)
   pub inclusion_texts : AllByRecursion HasText (map (raw_inclusion t) t.inclusions)
+  pub check_texts : AllByRecursion HasText (map (raw_check t) t.checks)
   pub view_texts : AllByRecursion HasText (map (raw_view t) t.views)
   pub columns : (i : ℕ) → i < length t.relations → (n : Name) → Contains (columns_of t i) n → IsName n × (is_long n ≡ false)
   pub once : (i : ℕ) → i < length t.relations → first_repeat (columns_of t i) ≡ None
@@ -147,9 +192,11 @@ kept_empty = record {
   well = empty_well;
   relations = refl;
   inclusions = refl;
+  checks = refl;
   views = refl;
   relation_texts = tt;
   inclusion_texts = tt;
+  check_texts = tt;
   view_texts = tt;
   columns = λ i h. absurd (omega arith);
   once = λ i h. absurd (omega arith);
@@ -200,6 +247,10 @@ each_relation t r P old new i h =
 all_inclusions : (t : Spec) (cs : List Inclusion) → AllByRecursion IsInclusion (map (raw_inclusion t) cs)
 all_inclusions t [] = tt
 all_inclusions t (c ∷ cs) = (tt, all_inclusions t cs)
+
+all_checks : (t : Spec) (cs : List Check) → AllByRecursion IsCheck (map (raw_check t) cs)
+all_checks t [] = tt
+all_checks t (c ∷ cs) = (tt, all_checks t cs)
 
 all_views : (t : Spec) (vs : List View) → AllByRecursion IsView (map (raw_view t) vs)
 all_views t [] = tt
@@ -254,6 +305,12 @@ module _ (t : Spec) (r : RawRelation) (h : Kept t) (e : rule_faults t (RelationS
       let made : Name → Name → RawStatement = λ from to. InclusionStatement (record { from = from; from_cols = c.from_cols; to = to; to_cols = c.to_cols }) in
       ap (λ n. made n (name_at more c.to)) (name_stays c.from f.left) ∙ ap (made (name_at t c.from)) (name_stays c.to f.right))
 
+  checks_same : map (raw_check more) t.checks ≡ map (raw_check t) t.checks
+  checks_same = map_same (raw_check more) (raw_check t) t.checks (λ c k.
+      let f = h.well.checks c k in
+      let made : Name → RawStatement = λ n. CheckStatement (record { name = c.name; relation = n; cond = c.cond }) in
+      ap made (name_stays c.relation f.relation))
+
   views_same : map (raw_view more) t.views ≡ map (raw_view t) t.views
   views_same = map_same (raw_view more) (raw_view t) t.views (λ v k.
       let f = h.well.views v k in
@@ -276,10 +333,12 @@ module _ (t : Spec) (r : RawRelation) (h : Kept t) (e : rule_faults t (RelationS
       record {
         well = added_well t (RelationStatement r) e some h.well;
         relations = rw (map-append raw_relation t.relations (relation_of r ∷ [])) (accepts_both empty_spec (relations_of t) (relations_of more) (map raw_relation t.relations) (RelationStatement r ∷ []) h.relations (alone, refl));
-        inclusions = rw inclusions_same (inclusions_later (relations_of t) (without_views t) r (map (raw_inclusion t) t.inclusions) (all_inclusions t t.inclusions) h.inclusions base-well base-more);
+        inclusions = rw inclusions_same (inclusions_later (relations_of t) (without_checks t) r (map (raw_inclusion t) t.inclusions) (all_inclusions t t.inclusions) h.inclusions base-well base-more);
+        checks = rw checks_same (checks_later (without_checks t) (without_views t) r (map (raw_check t) t.checks) (all_checks t t.checks) h.checks);
         views = rw views_same (views_later (without_views t) t r (map (raw_view t) t.views) (all_apart t r t.views view_apart) h.views);
         relation_texts = rw (map-append raw_relation t.relations (relation_of r ∷ [])) (all_append HasText (map raw_relation t.relations) (RelationStatement r ∷ []) h.relation_texts ((has, tt), tt));
         inclusion_texts = rw inclusions_same h.inclusion_texts;
+        check_texts = rw checks_same h.check_texts;
         view_texts = rw views_same h.view_texts;
         columns = each_relation t r (λ x. (n : Name) → Contains (names_of x.attrs) n → IsName n × (is_long n ≡ false)) h.columns attr_names;
         once = each_relation t r (λ x. first_repeat (names_of x.attrs) ≡ None) h.once attrs_once;
@@ -302,13 +361,13 @@ module _ (t : Spec) (c : RawInclusion) (h : Kept t) (e : rule_faults t (Inclusio
       let made : Name → Name → RawStatement = λ from to. InclusionStatement (record { from = from; from_cols = c.from_cols; to = to; to_cols = c.to_cols }) in
       ap (λ n. made n (name_at t d.to)) (found_at t.relations c.from (from_known t no_raw c e)) ∙ ap (made c.from) (found_at t.relations c.to (to_known t no_raw c e))
 
-  base : rule_faults (without_views t) (InclusionStatement c) ≡ []
+  base : rule_faults (without_checks t) (InclusionStatement c) ≡ []
   base =
       let back = none_back t c (added_well t (InclusionStatement c) e tt h.well) in
       let within : number_of t c.to < length t.relations = known_number t c.to (to_known t no_raw c e) in
-      let none : closed_cycle (without_views t) (number_of t c.from) (number_of t c.to) ≡ None = no_cycle (without_views t) (number_of t c.from) (number_of t c.to) (without_views_well t h.well) within back in
-      let cycle : cyclic (without_views t) c ≡ [] = rw none refl in
-      both_empty (Rules.inclusion_name_faults t c ++ Rules.bad_inclusion (attrs_of t c.from) (attrs_of t c.to) c) (cyclic (without_views t) c) (no_left _ (cyclic t c) e) cycle
+      let none : closed_cycle (without_checks t) (number_of t c.from) (number_of t c.to) ≡ None = no_cycle (without_checks t) (number_of t c.from) (number_of t c.to) (without_checks_well t h.well) within back in
+      let cycle : cyclic (without_checks t) c ≡ [] = rw none refl in
+      both_empty (Rules.inclusion_name_faults t c ++ Rules.bad_inclusion (attrs_of t c.from) (attrs_of t c.to) c) (cyclic (without_checks t) c) (no_left _ (cyclic t c) e) cycle
 
   pub kept_inclusion : Kept after
   kept_inclusion =
@@ -316,10 +375,49 @@ module _ (t : Spec) (c : RawInclusion) (h : Kept t) (e : rule_faults t (Inclusio
       record {
         well = added_well t (InclusionStatement c) e tt h.well;
         relations = h.relations;
-        inclusions = rw list (accepts_both (relations_of t) (without_views t) (without_views after) (map (raw_inclusion t) t.inclusions) (InclusionStatement c ∷ []) h.inclusions (base, refl));
+        inclusions = rw list (accepts_both (relations_of t) (without_checks t) (without_checks after) (map (raw_inclusion t) t.inclusions) (InclusionStatement c ∷ []) h.inclusions (base, refl));
+        checks = checks_behind (without_checks t) (without_views t) d (map (raw_check t) t.checks) (all_checks t t.checks) h.checks;
         views = views_behind (without_views t) t d (map (raw_view t) t.views) (all_views t t.views) h.views;
         relation_texts = h.relation_texts;
         inclusion_texts = rw list (all_append HasText (map (raw_inclusion t) t.inclusions) (InclusionStatement c ∷ []) h.inclusion_texts ((has, tt), tt));
+        check_texts = h.check_texts;
+        view_texts = h.view_texts;
+        columns = h.columns;
+        once = h.once;
+      }
+
+-- ---- a further check
+
+module _ (t : Spec) (c : RawCheck) (h : Kept t) (e : rule_faults t (CheckStatement c) ≡ []) (has : HasWords (CheckStatement c)) where
+  abbrev check : Check
+  check = check_of t c
+
+  abbrev after_check : Spec
+  after_check = added t (CheckStatement c)
+
+  raw_check-again : raw_check t check ≡ CheckStatement c
+  raw_check-again =
+      let made : Name → RawStatement = λ n. CheckStatement (record { name = c.name; relation = n; cond = c.cond }) in
+      ap made (found_at t.relations c.relation (checked_known t no_raw c e))
+
+  check_short : nodes c.cond ≤ 2000
+  check_short =
+      let few : Rules.too_many_nodes c.cond ≡ [] = no_right (Rules.untyped_check (faults c.cond (attrs_of t c.relation))) (Rules.too_many_nodes c.cond) (no_right (Rules.check_name_faults t c) _ e) in
+      let nodes-few : nodes c.cond ≤ 1000 = ltb-false 1000 (nodes c.cond) (not_broken (nat_lt 1000 (nodes c.cond)) _ few) in
+      omega arith
+
+  pub kept_check : Kept after_check
+  kept_check =
+      let list : map (raw_check after_check) after_check.checks ≡ map (raw_check t) t.checks ++ CheckStatement c ∷ [] = map-append (raw_check t) t.checks (check ∷ []) ∙ ap (λ s. map (raw_check t) t.checks ++ s ∷ []) raw_check-again in
+      record {
+        well = added_well t (CheckStatement c) e tt h.well;
+        relations = h.relations;
+        inclusions = h.inclusions;
+        checks = rw list (accepts_both (without_checks t) (without_views t) (without_views after_check) (map (raw_check t) t.checks) (CheckStatement c ∷ []) h.checks (e, refl));
+        views = views_unchecked (without_views t) t check (map (raw_view t) t.views) (all_views t t.views) h.views;
+        relation_texts = h.relation_texts;
+        inclusion_texts = h.inclusion_texts;
+        check_texts = rw list (all_append HasText (map (raw_check t) t.checks) (CheckStatement c ∷ []) h.check_texts ((has, check_short), tt));
         view_texts = h.view_texts;
         columns = h.columns;
         once = h.once;
@@ -463,9 +561,11 @@ module _ (t : Spec) (v : RawView) (h : Kept t) (e : rule_faults t (ViewStatement
         well = added_well t (ViewStatement v) e (some_names v.relations has.2) h.well;
         relations = h.relations;
         inclusions = h.inclusions;
+        checks = h.checks;
         views = rw list (accepts_both (without_views t) t after_v (map (raw_view t) t.views) (s ∷ []) h.views (rules_again v.head refl, refl));
         relation_texts = h.relation_texts;
         inclusion_texts = h.inclusion_texts;
+        check_texts = h.check_texts;
         view_texts = rw list (all_append HasText (map (raw_view t) t.views) (s ∷ []) h.view_texts (words, tt));
         columns = h.columns;
         once = h.once;
@@ -476,6 +576,7 @@ module _ (t : Spec) (v : RawView) (h : Kept t) (e : rule_faults t (ViewStatement
 kept_next : (t : Spec) (s : RawStatement) → Kept t → rule_faults t s ≡ [] → HasWords s → Kept (added t s)
 kept_next t (RelationStatement r) h e has = kept_relation t r h e has
 kept_next t (InclusionStatement c) h e has = kept_inclusion t c h e has
+kept_next t (CheckStatement c) h e has = kept_check t c h e has
 kept_next t (ViewStatement v) h e has = kept_view t v h e has
 
 both_steps : (o : Result Spec SpecFault) (f : Spec → Result Spec SpecFault) (t : Spec) → Rules.and_then o f ≡ Ok t → (m : Spec) × (o ≡ Ok m) × (f m ≡ Ok t)
@@ -498,12 +599,16 @@ pub printed_accepted : (t : Spec) → Kept t → checked (raw_of_spec t) ≡ Ok 
 printed_accepted t h =
     let rs = map raw_relation t.relations in
     let cs = map (raw_inclusion t) t.inclusions in
+    let ks = map (raw_check t) t.checks in
     let vs = map (raw_view t) t.views in
-    accepts_checked 1 empty_spec t (rs ++ cs ++ vs) (accepts_both empty_spec (without_views t) t (rs ++ cs) vs (accepts_both empty_spec (relations_of t) (without_views t) rs cs h.relations h.inclusions) h.views)
+    let inclusions = accepts_both empty_spec (relations_of t) (without_checks t) rs cs h.relations h.inclusions in
+    let checks = accepts_both empty_spec (without_checks t) (without_views t) (rs ++ cs) ks inclusions h.checks in
+    accepts_checked 1 empty_spec t (rs ++ cs ++ ks ++ vs) (accepts_both empty_spec (without_views t) t (rs ++ cs ++ ks) vs checks h.views)
 
 pub printed_texts : (t : Spec) → Kept t → AllByRecursion HasText (raw_of_spec t)
 printed_texts t h =
     let rs = map raw_relation t.relations in
     let cs = map (raw_inclusion t) t.inclusions in
+    let ks = map (raw_check t) t.checks in
     let vs = map (raw_view t) t.views in
-    all_append HasText (rs ++ cs) vs (all_append HasText rs cs h.relation_texts h.inclusion_texts) h.view_texts
+    all_append HasText (rs ++ cs ++ ks) vs (all_append HasText (rs ++ cs) ks (all_append HasText rs cs h.relation_texts h.inclusion_texts) h.check_texts) h.view_texts

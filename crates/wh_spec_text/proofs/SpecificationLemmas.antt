@@ -10,11 +10,12 @@ use Rattle.wh_grammar.specs.ConditionData.{disjunction, cond_of}
 use Rattle.wh_grammar.proofs.GrammarLemmas.{left as tokens_left, takes_keeps, name_takes, separated_takes, maybe_keeps}
 use Rattle.wh_grammar.proofs.DataLemmas.{AgreeTo, SameTo, seq_agrees, starts_same, map_agrees, map_same, step, last_step, token_same, name_same, or_same, cond_agrees, maybe_agrees, each_agrees, list_step, separated_same, enclosed_same}
 use Rattle.wh_grammar.proofs.CondDataLemmas.{cond_same}
+use Rattle.wh_grammar.proofs.CondLemmas.{condition_takes}
 use Rattle.wh_schema.specs.declared.raw.RawStatement.{RawStatement}
 use Rattle.wh_schema.specs.declared.raw.RawStatement.TheVariants as statements
 use Rattle.wh_spec_text.specs.Statements as g
 use Rattle.wh_spec_text.specs.SpecificationData as d
-use Rattle.wh_spec_text.specs.SpecificationData.{Rule, specification, kind_of, attr_of, columns_of, attr_columns_of, relation_of, inclusion_of, view_of, statement_of, stated, SpecificationsAgree}
+use Rattle.wh_spec_text.specs.SpecificationData.{Rule, specification, kind_of, attr_of, columns_of, attr_columns_of, relation_of, inclusion_of, check_of, view_of, statement_of, stated, SpecificationsAgree}
 use Rattle.wh_spec_text.proofs.StatementLemmas.{attr_takes, attrs_takes, columns_takes, attr_columns_takes, token_keeps, selection_keeps, statement_takes}
 
 abbrev tree : ℕ → Rule → Part Tree
@@ -75,6 +76,16 @@ inclusion_agrees m depth le =
     step m columns_of (λ z. inclusion_of (pair x (pair x1 (pair x2 (pair x3 z))))) _ g.columns.read _ _ (takes_keeps _ columns_takes) (columns_same m depth le).reads (λ x4 r k.
     last_step m unit_of (λ z. inclusion_of (pair x (pair x1 (pair x2 (pair x3 (pair x4 z)))))) (token_tree s.Semicolon).read (token s.Semicolon).read (λ _. record { from = from; from_cols = l; to = to; to_cols = r }) (one m s.Semicolon) (λ z b c. rw (e, f, h, k) refl))))))
 
+check_agrees : (m n depth : ℕ) → m ≤ n → 3 * m + 4 ≤ depth → AgreeTo m check_of (meaning (tree depth) d.check_tail).read (g.check_rest n)
+unfolding g.check_rest same
+check_agrees m n depth le deep =
+    step m name_of check_of (token_tree s.Name).read name.read _ _ (takes_keeps _ name_takes) (name_same m).reads (λ x n1 e.
+    step m unit_of (λ z. check_of (pair x z)) _ (token s.In).read _ _ (token_keeps s.In refl) (one m s.In) (λ x1 a1 e1.
+    step m name_of (λ z. check_of (pair x (pair x1 z))) _ name.read _ _ (takes_keeps _ name_takes) (name_same m).reads (λ x2 r f.
+    step m unit_of (λ z. check_of (pair x (pair x1 (pair x2 z)))) _ (token s.Where).read _ _ (token_keeps s.Where refl) (one m s.Where) (λ x3 a3 e3.
+    step m cond_of (λ z. check_of (pair x (pair x1 (pair x2 (pair x3 z))))) _ (conditions.cond n).read _ _ (takes_keeps _ (condition_takes n)) (cond_same specification d.condition (λ r. refl) n m depth le deep).reads (λ x4 c h.
+    last_step m unit_of (λ z. check_of (pair x (pair x1 (pair x2 (pair x3 (pair x4 z)))))) (token_tree s.Semicolon).read (token s.Semicolon).read (λ _. record { name = n1; relation = r; cond = c }) (one m s.Semicolon) (λ z b q. rw (e, f, h) refl))))))
+
 where_same : (m n depth : ℕ) → m ≤ n → 3 * m + 4 ≤ depth → SameTo m (behind cond_of) (sequence (token_tree s.Where) (tree depth (d.condition disjunction))) (g.where_cond n)
 unfolding same
 where_same m n depth le deep =
@@ -115,6 +126,11 @@ unfolding same
 inclusion_same m zero le = absurd (omega arith)
 inclusion_same m (suc depth) le = stated_same m s.Inclusion inclusion_of (meaning (tree depth) d.inclusion_tail) g.inclusion_rest statements.Inclusion refl (inclusion_agrees m depth (omega arith))
 
+check_same : (m n depth : ℕ) → m ≤ n → 3 * m + 5 ≤ depth → SameTo m (λ t. stated statements.Check (behind check_of t)) (tree depth d.check) (g.check n)
+unfolding same
+check_same m n zero le deep = absurd (omega arith)
+check_same m n (suc depth) le deep = stated_same m s.Check check_of (meaning (tree depth) d.check_tail) (g.check_rest n) statements.Check refl (check_agrees m n depth le (omega arith))
+
 view_same : (m n depth : ℕ) → m ≤ n → 3 * m + 5 ≤ depth → SameTo m (λ t. stated statements.View (behind view_of t)) (tree depth d.view) (g.view n)
 unfolding same
 view_same m n zero le deep = absurd (omega arith)
@@ -123,12 +139,16 @@ view_same m n (suc depth) le deep = stated_same m s.View view_of (meaning (tree 
 statement_same : (m n depth : ℕ) → m ≤ n → 3 * m + 6 ≤ depth → SameTo m statement_of (tree depth d.statement) (g.statement n)
 statement_same m n zero le deep = absurd (omega arith)
 statement_same m n (suc depth) le deep =
-    or_same m statement_of (mapped left (tree depth d.relation)) _ g.relation (g.inclusion or g.view n)
+    or_same m statement_of (mapped left (tree depth d.relation)) _ g.relation (g.inclusion or g.check n or g.view n)
     (map_same m (λ t. stated statements.Relation (behind relation_of t)) statement_of (tree depth d.relation) g.relation left (relation_same m depth (omega arith)) (λ x a e. e))
-    (map_same m (λ t. statement_of (right t)) statement_of _ (g.inclusion or g.view n) right
-    (or_same m (λ t. statement_of (right t)) (mapped left (tree depth d.inclusion)) (mapped right (tree depth d.view)) g.inclusion (g.view n)
+    (map_same m (λ t. statement_of (right t)) statement_of _ (g.inclusion or g.check n or g.view n) right
+    (or_same m (λ t. statement_of (right t)) (mapped left (tree depth d.inclusion)) _ g.inclusion (g.check n or g.view n)
     (map_same m (λ t. stated statements.Inclusion (behind inclusion_of t)) (λ t. statement_of (right t)) (tree depth d.inclusion) g.inclusion left (inclusion_same m depth (omega arith)) (λ x a e. e))
-    (map_same m (λ t. stated statements.View (behind view_of t)) (λ t. statement_of (right t)) (tree depth d.view) (g.view n) right (view_same m n depth le (omega arith)) (λ x a e. e)))
+    (map_same m (λ t. statement_of (right (right t))) (λ t. statement_of (right t)) _ (g.check n or g.view n) right
+    (or_same m (λ t. statement_of (right (right t))) (mapped left (tree depth d.check)) (mapped right (tree depth d.view)) (g.check n) (g.view n)
+    (map_same m (λ t. stated statements.Check (behind check_of t)) (λ t. statement_of (right (right t))) (tree depth d.check) (g.check n) left (check_same m n depth le (omega arith)) (λ x a e. e))
+    (map_same m (λ t. stated statements.View (behind view_of t)) (λ t. statement_of (right (right t))) (tree depth d.view) (g.view n) right (view_same m n depth le (omega arith)) (λ x a e. e)))
+    (λ x a e. e)))
     (λ x a e. e))
 
 agrees_at : (n depth : ℕ) (i : Input) → tokens_left i ≤ n → 3 * tokens_left i + 8 ≤ depth → Agrees (list_of statement_of []) ((tree depth d.spec).read i) (each push (g.statement n) [] i)

@@ -6,8 +6,8 @@ use Rattle.wh_grammar.specs.declared.symbol.Symbol.TheVariants as s
 use Rattle.wh_grammar.specs.Grammar.{◌>>=◌, pure, same, token, name, starts, ◌or◌}
 use Rattle.wh_grammar.proofs.GrammarLemmas.{Keeps, Takes, bind_keeps, bind_takes, takes_keeps, pure_keeps, token_takes, name_takes, or_takes, separated_takes, Refuses, or_refuses, same_is, maybe_keeps, enclosed_takes}
 use Rattle.wh_grammar.proofs.CondLemmas.{condition_takes}
-use Rattle.wh_schema.specs.declared.raw.RawStatement.TheVariants.{Relation, Inclusion, View}
-use Rattle.wh_spec_text.specs.Statements.{kind, attr, attrs, columns, attr_columns, relation_rest, inclusion_rest, where_cond, selection, view_rest, relation, inclusion, view, statement}
+use Rattle.wh_schema.specs.declared.raw.RawStatement.TheVariants.{Relation, Inclusion, Check, View}
+use Rattle.wh_spec_text.specs.Statements.{kind, attr, attrs, columns, attr_columns, relation_rest, inclusion_rest, check_rest, where_cond, selection, view_rest, relation, inclusion, check, view, statement}
 
 pub kind_takes : Takes kind.read
 unfolding same
@@ -52,6 +52,16 @@ inclusion_keeps =
     bind_keeps _ _ (takes_keeps _ columns_takes) (λ right.
     bind_keeps _ _ (token_keeps s.Semicolon refl) (λ _. pure_keeps _))))))
 
+pub check_keeps : (d : ℕ) → Keeps (check_rest d)
+unfolding check_rest same
+check_keeps d =
+    bind_keeps _ _ (takes_keeps _ name_takes) (λ n.
+    bind_keeps _ _ (token_keeps s.In refl) (λ _.
+    bind_keeps _ _ (takes_keeps _ name_takes) (λ relation.
+    bind_keeps _ _ (token_keeps s.Where refl) (λ _.
+    bind_keeps _ _ (takes_keeps _ (condition_takes d)) (λ c.
+    bind_keeps _ _ (token_keeps s.Semicolon refl) (λ _. pure_keeps _))))))
+
 pub where_takes : (d : ℕ) → Takes (where_cond d).read
 unfolding same
 where_takes d = bind_takes _ _ (token_takes s.Where refl) (λ _. takes_keeps _ (condition_takes d))
@@ -77,15 +87,19 @@ inclusion_takes : Takes inclusion.read
 unfolding same
 inclusion_takes = bind_takes (token s.Inclusion).read (λ _. inclusion_rest >>= (λ r. pure (Inclusion r))) (token_takes s.Inclusion refl) (λ _. bind_keeps inclusion_rest (λ r. pure (Inclusion r)) inclusion_keeps (λ r. pure_keeps (Inclusion r)))
 
+check_takes : (d : ℕ) → Takes (check d).read
+unfolding same
+check_takes d = bind_takes (token s.Check).read (λ _. check_rest d >>= (λ c. pure (Check c))) (token_takes s.Check refl) (λ _. bind_keeps (check_rest d) (λ c. pure (Check c)) (check_keeps d) (λ c. pure_keeps (Check c)))
+
 view_takes : (d : ℕ) → Takes (view d).read
 unfolding same
 view_takes d = bind_takes (token s.View).read (λ _. view_rest d >>= (λ v. pure (View v))) (token_takes s.View refl) (λ _. bind_keeps (view_rest d) (λ v. pure (View v)) (view_keeps d) (λ v. pure_keeps (View v)))
 
 pub statement_takes : (d : ℕ) → Takes (statement d).read
-statement_takes d = or_takes relation (inclusion or view d) relation_takes (or_takes inclusion (view d) inclusion_takes (view_takes d))
+statement_takes d = or_takes relation (inclusion or check d or view d) relation_takes (or_takes inclusion (check d or view d) inclusion_takes (or_takes (check d) (view d) (check_takes d) (view_takes d)))
 
 pub statement_refuses : (d : ℕ) → Refuses (statement d)
-statement_refuses d = or_refuses relation (inclusion or view d)
+statement_refuses d = or_refuses relation (inclusion or check d or view d)
 
 -- no statement begins at the end
 pub ends : (d : ℕ) (t : Symbol) → same t s.End ≡ true → (statement d).begins t ≡ false

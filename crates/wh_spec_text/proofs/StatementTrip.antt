@@ -29,10 +29,11 @@ use Rattle.wh_grammar.proofs.Segments.{Segment, and_then, segment_of}
 use Rattle.wh_grammar.proofs.Spelt.{Claim, any, only, other, Anything, seq, made, space_before, space_behind, plain_token, printed_token, printed_connective, name_claim, weaken, enclosed_claim, separated_claim, some_claim, none_claim, ends_cond, cond_claim}
 use Rattle.wh_schema.specs.declared.raw.RawRelation.{RawRelation}
 use Rattle.wh_schema.specs.declared.raw.RawInclusion.{RawInclusion}
+use Rattle.wh_schema.specs.declared.raw.RawCheck.{RawCheck}
 use Rattle.wh_schema.specs.declared.raw.RawView.{RawView}
 use Rattle.wh_schema.specs.declared.raw.RawStatement.TheVariants as statements
 use Rattle.wh_spec_text.specs.Statements as g
-use Rattle.wh_spec_text.specs.Printed.{listed, columns_text, attr_text, line_end, relation_text, inclusion_text, head_text, where_at, where_text, view_text}
+use Rattle.wh_spec_text.specs.Printed.{listed, columns_text, attr_text, line_end, relation_text, inclusion_text, check_text, head_text, where_at, where_text, view_text}
 use Rattle.wh_spec_text.specs.Textual.{AreNames, IsHead, IsSelection, HasWords}
 use Rattle.wh_spec_text.proofs.StatementLemmas.{attr_takes}
 
@@ -133,6 +134,10 @@ relation_word depth = space_behind (token s.Relation).read tt (codes "relation")
 inclusion_word : (depth : ℕ) → Claim (token s.Inclusion).read tt (codes "inclusion ") depth 0 0 (only s.Inclusion) any Anything
 unfolding symbol same
 inclusion_word depth = space_behind (token s.Inclusion).read tt (codes "inclusion") depth 0 0 (only s.Inclusion) any (printed_token kinds.Word (codes "inclusion") s.Inclusion depth 0 (refl, refl) refl refl refl)
+
+check_word : (depth : ℕ) → Claim (token s.Check).read tt (codes "check ") depth 0 0 (only s.Check) any Anything
+unfolding symbol same
+check_word depth = space_behind (token s.Check).read tt (codes "check") depth 0 0 (only s.Check) any (printed_token kinds.Word (codes "check") s.Check depth 0 (refl, refl) refl refl refl)
 
 view_word : (depth : ℕ) → Claim (token s.View).read tt (codes "view ") depth 0 0 (only s.View) any Anything
 unfolding symbol same
@@ -235,10 +240,31 @@ inclusion_claim depth c is =
     (ends_line (record { from = c.from; from_cols = c.from_cols; to = c.to; to_cols = c.to_cols }) depth))))))) in
     subst (λ w. EndClaim g.inclusion.read (statements.Inclusion c) w depth 0 (only s.Inclusion)) (sym (assoc-7 (codes "inclusion ") c.from ls (codes " in ") c.to rs line_end)) h
 
--- ---- views
+-- ---- checks
 
 is_symbol : (k t : Symbol) → only k t ≡ true → t ≡ k
 is_symbol k t h = same_is t k h
+
+semicolon_ends : (t : Symbol) → only s.Semicolon t ≡ true → ends_cond t ≡ true
+unfolding same
+semicolon_ends t h = let e = is_symbol s.Semicolon t h in rw e refl
+
+pub check_claim : (depth : ℕ) (c : RawCheck) → HasWords (statements.Check c) → EndClaim (g.check depth).read (statements.Check c) (check_text c) depth (nodes c.cond) (only s.Check)
+unfolding g.check_rest
+check_claim depth c is =
+    let h = then_part (λ _. g.check_rest depth >>= (λ x. pure (statements.Check x))) (check_word depth) (λ rest. tt) (λ t e. refl)
+    (made_end statements.Check
+    (then_part (λ n. (token s.In).read >> (name.read >>= (λ r. (token s.Where).read >> ((conditions.cond depth).read >>= (λ d. (token s.Semicolon).read >> pure (record { name = n; relation = r; cond = d })))))) (name_claim c.name depth 0 is.0) (λ rest. refl) (λ t e. refl)
+    (then_part (λ _. name.read >>= (λ r. (token s.Where).read >> ((conditions.cond depth).read >>= (λ d. (token s.Semicolon).read >> pure (record { name = c.name; relation = r; cond = d }))))) (in_word depth) (λ rest. tt) (λ t e. refl)
+    (then_part (λ r. (token s.Where).read >> ((conditions.cond depth).read >>= (λ d. (token s.Semicolon).read >> pure (record { name = c.name; relation = r; cond = d })))) (name_claim c.relation depth 0 is.1) (λ rest. refl) (λ t e. refl)
+    (then_part (λ _. (conditions.cond depth).read >>= (λ d. (token s.Semicolon).read >> pure (record { name = c.name; relation = c.relation; cond = d }))) (where_word depth) (λ rest. tt) (λ t e. refl)
+    (then_part (λ d. (token s.Semicolon).read >> pure (record { name = c.name; relation = c.relation; cond = d })) (cond_claim c.cond depth is.2.0 is.2.1) (λ rest. refl) semicolon_ends
+    (ends_line (record { name = c.name; relation = c.relation; cond = c.cond }) depth))))))) in
+    let count : 0 + (0 + (0 + (0 + (0 + (nodes c.cond + 0))))) ≡ nodes c.cond = omega arith in
+    let counted = subst (λ m. EndClaim (g.check depth).read (statements.Check c) (codes "check " ++ (c.name ++ (codes " in " ++ (c.relation ++ (codes " where " ++ (printed c.cond ++ line_end)))))) depth m (only s.Check)) count h in
+    subst (λ w. EndClaim (g.check depth).read (statements.Check c) w depth (nodes c.cond) (only s.Check)) (sym (assoc-7 (codes "check ") c.name (codes " in ") c.relation (codes " where ") (printed c.cond) line_end)) counted
+
+-- ---- views
 
 -- an optional head, before the mark `=`
 head_claim : (depth : ℕ) (head : Option (List (List ℕ))) → IsHead head → Claim (maybe g.columns) head (head_text head) depth 0 0 any (only s.Equal) Anything
@@ -286,10 +312,6 @@ first_where t h = let e = is_symbol s.Where t h in rw e refl
 first_semicolon : (t : Symbol) → only s.Semicolon t ≡ true → selection_first t ≡ true
 unfolding same
 first_semicolon t h = let e = is_symbol s.Semicolon t h in rw e refl
-
-semicolon_ends : (t : Symbol) → only s.Semicolon t ≡ true → ends_cond t ≡ true
-unfolding same
-semicolon_ends t h = let e = is_symbol s.Semicolon t h in rw e refl
 
 semicolon_other : (t : Symbol) → only s.Semicolon t ≡ true → same t s.Where ≡ false
 unfolding same

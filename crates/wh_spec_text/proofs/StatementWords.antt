@@ -17,6 +17,7 @@ use Rattle.wh_grammar.proofs.Worded.{Good, bind_good, pure_good, weaken_good, to
 use Rattle.wh_grammar.proofs.WordedParts.{or_good, OnBoth, maybe_good, each_good, AreSome, separated_good, enclosed_good, whole_good, IsCond, condition_good}
 use Rattle.wh_schema.specs.declared.raw.RawRelation.{RawRelation}
 use Rattle.wh_schema.specs.declared.raw.RawInclusion.{RawInclusion}
+use Rattle.wh_schema.specs.declared.raw.RawCheck.{RawCheck}
 use Rattle.wh_schema.specs.declared.raw.RawView.{RawView}
 use Rattle.wh_schema.specs.declared.raw.RawStatement.{RawStatement}
 use Rattle.wh_schema.specs.declared.raw.RawStatement.TheVariants as statements
@@ -90,6 +91,18 @@ inclusion_good =
     bind_good 0 0 0 Any Q (token s.Semicolon).read _ (token_good 0 0 s.Semicolon refl) (λ _ _.
     pure_good 0 Q (record { from = from; from_cols = l; to = to; to_cols = r }) (hf, hl, ht, hr)))))))
 
+check_good : (d : ℕ) → Good 0 0 (λ c. HasWords (statements.Check c)) (g.check_rest d)
+unfolding g.check_rest
+check_good d =
+    let Q : RawCheck → Type 0 = λ c. HasWords (statements.Check c) in
+    bind_good 0 0 0 IsName Q name.read _ (name_good 0) (λ n hn.
+    bind_good 0 0 0 Any Q (token s.In).read _ (token_good 0 0 s.In refl) (λ _ _.
+    bind_good 0 0 0 IsName Q name.read _ (name_good 0) (λ relation hr.
+    bind_good 0 0 0 Any Q (token s.Where).read _ (token_good 0 0 s.Where refl) (λ _ _.
+    bind_good 0 0 0 (IsCond 0) Q (conditions.cond d).read _ (condition_good d 0) (λ c hc.
+    bind_good 0 0 0 Any Q (token s.Semicolon).read _ (token_good 0 0 s.Semicolon refl) (λ _ _.
+    pure_good 0 Q (record { name = n; relation = relation; cond = c }) (hn, hr, hc)))))))
+
 head_of : (head : Option (List (List ℕ))) → OnBoth (Unit {0}) AreNames head → IsHead head
 head_of None h = h
 head_of (Some names) h = h
@@ -124,11 +137,13 @@ behind_word k Q f rest word one h =
 
 statement_good : (d : ℕ) → Good 0 0 HasWords (g.statement d).read
 statement_good d =
-    or_good 0 0 HasWords g.relation (g.inclusion or g.view d)
+    or_good 0 0 HasWords g.relation (g.inclusion or g.check d or g.view d)
     (behind_word s.Relation (λ r. HasWords (statements.Relation r)) statements.Relation g.relation_rest (token_good 0 0 s.Relation refl) relation_good (λ x h. h))
-    (or_good 0 0 HasWords g.inclusion (g.view d)
+    (or_good 0 0 HasWords g.inclusion (g.check d or g.view d)
     (behind_word s.Inclusion (λ c. HasWords (statements.Inclusion c)) statements.Inclusion g.inclusion_rest (token_good 0 0 s.Inclusion refl) inclusion_good (λ x h. h))
-    (behind_word s.View (λ v. HasWords (statements.View v)) statements.View (g.view_rest d) (token_good 0 0 s.View refl) (view_good d) (λ x h. h)))
+    (or_good 0 0 HasWords (g.check d) (g.view d)
+    (behind_word s.Check (λ c. HasWords (statements.Check c)) statements.Check (g.check_rest d) (token_good 0 0 s.Check refl) (check_good d) (λ x h. h))
+    (behind_word s.View (λ v. HasWords (statements.View v)) statements.View (g.view_rest d) (token_good 0 0 s.View refl) (view_good d) (λ x h. h))))
 
 statements_good : (d : ℕ) → Good 0 0 (λ raw. AllByRecursion HasWords raw) (g.statements d)
 statements_good d =

@@ -19,13 +19,13 @@ use Rattle.wh_grammar.proofs.ScannedLemmas.{scanned_whole}
 use Rattle.wh_grammar.proofs.Segments.{Segment, and_then, map_lexemes}
 use Rattle.wh_grammar.proofs.Spelt.{only}
 use Rattle.wh_schema.specs.declared.raw.RawStatement.{RawStatement}
-use Rattle.wh_schema.specs.declared.raw.RawStatement.TheVariants.{Relation, Inclusion, View}
+use Rattle.wh_schema.specs.declared.raw.RawStatement.TheVariants.{Relation, Inclusion, Check, View}
 use Rattle.wh_spec_text.specs.Statements as g
 use Rattle.wh_spec_text.specs.Printed.{statement_text, statements_text}
 use Rattle.wh_spec_text.specs.Textual.{AreNames, HasText, IsReadAgain}
 use Rattle.wh_spec_text.specs.Texts.{without_mark}
 use Rattle.wh_spec_text.proofs.StatementLemmas.{statement_takes, statement_refuses, ends}
-use Rattle.wh_spec_text.proofs.StatementTrip.{relation_claim, inclusion_claim, view_claim, joins_of}
+use Rattle.wh_spec_text.proofs.StatementTrip.{relation_claim, inclusion_claim, check_claim, view_claim, joins_of}
 use Rattle.wh_spec_text.proofs.TextLemmas.{raw_is}
 
 -- ---- a statement
@@ -49,6 +49,10 @@ relation_first d i h = let e = is_first s.Relation (next i) h in rw e refl
 inclusion_first : (d : ℕ) (i : Input) → only s.Inclusion (next i) ≡ true → (g.statement d).read i ≡ g.inclusion.read i
 unfolding same
 inclusion_first d i h = let e = is_first s.Inclusion (next i) h in rw e refl
+
+check_first : (d : ℕ) (i : Input) → only s.Check (next i) ≡ true → (g.statement d).read i ≡ (g.check d).read i
+unfolding same
+check_first d i h = let e = is_first s.Check (next i) h in rw e refl
 
 view_first : (d : ℕ) (i : Input) → only s.View (next i) ≡ true → (g.statement d).read i ≡ (g.view d).read i
 unfolding same
@@ -82,6 +86,16 @@ stated depth (Inclusion c) is at rest =
       reads = λ total more le. inclusion_first depth (from total (h.tokens ++ more)) (h.begins more) ∙ h.reads total more le;
       goes = λ more. not_end s.Inclusion (symbol_of (h.tokens ++ more)) refl (h.begins more);
       nests = λ more. h.nests 0 more (omega arith);
+    }
+stated depth (Check c) is at rest =
+    let h = check_claim depth c is.0 at rest in
+    record {
+      tokens = h.tokens;
+      end = h.end;
+      segment = h.segment;
+      reads = λ total more le. check_first depth (from total (h.tokens ++ more)) (h.begins more) ∙ h.reads total more le;
+      goes = λ more. not_end s.Check (symbol_of (h.tokens ++ more)) refl (h.begins more);
+      nests = λ more. h.nests 0 more (omega (arith, is.1));
     }
 stated depth (View v) is at rest =
     let h = view_claim depth v is.0 at rest in
@@ -149,6 +163,7 @@ no_mark : (xs : List RawStatement) → statements_text xs ≡ without_mark (stat
 no_mark [] = refl
 no_mark (Relation r ∷ xs) = refl
 no_mark (Inclusion c ∷ xs) = refl
+no_mark (Check c ∷ xs) = refl
 no_mark (View v ∷ xs) = refl
 
 pub read_again : IsReadAgain

@@ -1,4 +1,4 @@
--- How a specification is printed: relations, then inclusions, then views, a statement on a line.
+-- How a specification is printed: relations, then inclusions, then checks, then views, a statement on a line.
 use Rattle.std.specs.Prelude.{ℕ, List, [], ◌∷◌, ◌++◌, map, Option, Some, None, codes}
 use Rattle.wh_base.specs.declared.cond.Cond.{Cond, out-Cond}
 use Rattle.wh_base.specs.declared.cond.Cond.TheOpen.{Cond-F}
@@ -6,11 +6,13 @@ use Rattle.wh_base.specs.declared.value.Attr.{Attr}
 use Rattle.wh_base.specs.declared.value.Kind.{Kind}
 use Rattle.wh_base.specs.declared.value.Kind.TheVariants as kinds
 use Rattle.wh_grammar.specs.Printed.{printed, joined}
+use Rattle.wh_schema.specs.declared.raw.RawCheck.{RawCheck}
 use Rattle.wh_schema.specs.declared.raw.RawInclusion.{RawInclusion}
 use Rattle.wh_schema.specs.declared.raw.RawRelation.{RawRelation}
 use Rattle.wh_schema.specs.declared.raw.RawStatement.{RawStatement}
 use Rattle.wh_schema.specs.declared.raw.RawStatement.TheVariants as statements
 use Rattle.wh_schema.specs.declared.raw.RawView.{RawView}
+use Rattle.wh_schema.specs.declared.spec.Check.{Check}
 use Rattle.wh_schema.specs.declared.spec.Inclusion.{Inclusion}
 use Rattle.wh_schema.specs.declared.spec.Relation.{Relation}
 use Rattle.wh_schema.specs.declared.spec.Spec.{Spec}
@@ -50,6 +52,10 @@ relation_text r = codes "relation " ++ r.name ++ columns_text (map attr_text r.a
 abbrev pub inclusion_text : RawInclusion → List ℕ
 inclusion_text c = codes "inclusion " ++ c.from ++ columns_text c.from_cols ++ codes " in " ++ c.to ++ columns_text c.to_cols ++ line_end
 
+-- a `check` statement; its condition is always printed
+abbrev pub check_text : RawCheck → List ℕ
+check_text c = codes "check " ++ c.name ++ codes " in " ++ c.relation ++ codes " where " ++ printed c.cond ++ line_end
+
 -- a head that is given
 abbrev pub head_text : Option (List (List ℕ)) → List ℕ
 head_text None = []
@@ -75,6 +81,7 @@ view_text v = codes "view " ++ v.name ++ head_text v.head ++ codes " = " ++ join
 abbrev pub statement_text : RawStatement → List ℕ
 statement_text (statements.Relation r) = relation_text r
 statement_text (statements.Inclusion c) = inclusion_text c
+statement_text (statements.Check c) = check_text c
 statement_text (statements.View v) = view_text v
 
 -- statements, each on a line
@@ -96,13 +103,17 @@ raw_relation r = statements.Relation (record { name = r.name; attrs = r.attrs; k
 abbrev pub raw_inclusion : Spec → Inclusion → RawStatement
 raw_inclusion spec c = statements.Inclusion (record { from = name_at spec c.from; from_cols = c.from_cols; to = name_at spec c.to; to_cols = c.to_cols })
 
+-- the statement of a check
+abbrev pub raw_check : Spec → Check → RawStatement
+raw_check spec c = statements.Check (record { name = c.name; relation = name_at spec c.relation; cond = c.cond })
+
 -- the head is always printed
 abbrev pub raw_view : Spec → View → RawStatement
 raw_view spec v = statements.View (record { name = v.name; head = Some v.head; relations = map (name_at spec) v.relations; cond = v.cond })
 
 -- the statements of a specification, as they are printed
 abbrev pub raw_of_spec : Spec → List RawStatement
-raw_of_spec spec = map raw_relation spec.relations ++ map (raw_inclusion spec) spec.inclusions ++ map (raw_view spec) spec.views
+raw_of_spec spec = map raw_relation spec.relations ++ map (raw_inclusion spec) spec.inclusions ++ map (raw_check spec) spec.checks ++ map (raw_view spec) spec.views
 
 -- the printed form of a specification
 unfoldable pub spec_text : Spec → List ℕ

@@ -8,6 +8,7 @@ use Rattle.wh_grammar.specs.declared.symbol.Symbol.TheVariants as s
 use Rattle.wh_grammar.specs.Grammar.{Input, whole}
 use Rattle.wh_grammar.specs.GrammarData.{Tree, pair, left, right, Grammar, one, alt, opt, many, rule, ◌then◌, trees, name_of, both, behind, list_of, separated_of, maybe_of, enclosed_of, Agrees}
 use Rattle.wh_grammar.specs.ConditionData.{CondRule, disjunction, conditions, cond_of}
+use Rattle.wh_schema.specs.declared.raw.RawCheck.{RawCheck}
 use Rattle.wh_schema.specs.declared.raw.RawInclusion.{RawInclusion}
 use Rattle.wh_schema.specs.declared.raw.RawRelation.{RawRelation}
 use Rattle.wh_schema.specs.declared.raw.RawStatement.{RawStatement}
@@ -21,6 +22,7 @@ pub data Rule : Type 0 where
   statement : Rule
   relation : Rule
   inclusion : Rule
+  check : Rule
   view : Rule
   attr : Rule
   names : Rule
@@ -38,6 +40,10 @@ relation_tail = one s.Name then (one s.LeftParen then (rule attr then many (one 
 abbrev pub inclusion_tail : Grammar Rule
 inclusion_tail = one s.Name then columns then one s.In then one s.Name then columns then one s.Semicolon
 
+-- a check behind its first word
+abbrev pub check_tail : Grammar Rule
+check_tail = one s.Name then one s.In then one s.Name then one s.Where then rule (condition disjunction) then one s.Semicolon
+
 -- a view behind its first word
 abbrev pub view_tail : Grammar Rule
 view_tail =
@@ -47,9 +53,10 @@ view_tail =
 -- the grammar
 abbrev pub specification : Rule → Grammar Rule
 specification spec = many (rule statement)
-specification statement = alt (rule relation) (alt (rule inclusion) (rule view))
+specification statement = alt (rule relation) (alt (rule inclusion) (alt (rule check) (rule view)))
 specification relation = one s.Relation then relation_tail
 specification inclusion = one s.Inclusion then inclusion_tail
+specification check = one s.Check then check_tail
 specification view = one s.View then view_tail
 specification attr = one s.Name then alt (one s.IntWord) (one s.TextWord)
 specification names = one s.Name then many (one s.Comma then one s.Name)
@@ -96,6 +103,16 @@ abbrev pub inclusion_of : Tree → Option RawInclusion
 inclusion_of (pair from (pair l (pair word (pair to (pair r semicolon))))) = inclusion_with (name_of from) (columns_of l) (name_of to) (columns_of r)
 inclusion_of _ = None
 
+-- a check, where its parts are there
+abbrev pub check_with : Option (List ℕ) → Option (List ℕ) → Option Cond → Option RawCheck
+check_with (Some n) (Some r) (Some c) = Some (record { name = n; relation = r; cond = c })
+check_with _ _ _ = None
+
+-- a check behind its first word
+abbrev pub check_of : Tree → Option RawCheck
+check_of (pair name (pair in_word (pair checked (pair where_word (pair cond semicolon))))) = check_with (name_of name) (name_of checked) (cond_of cond)
+check_of _ = None
+
 -- an optional condition
 abbrev pub chosen_of : Option (Option Cond) → Option Cond
 chosen_of None = None
@@ -124,7 +141,8 @@ stated f (Some x) = Some (f x)
 abbrev pub statement_of : Tree → Option RawStatement
 statement_of (left t) = stated statements.Relation (behind relation_of t)
 statement_of (right (left t)) = stated statements.Inclusion (behind inclusion_of t)
-statement_of (right (right t)) = stated statements.View (behind view_of t)
+statement_of (right (right (left t))) = stated statements.Check (behind check_of t)
+statement_of (right (right (right t))) = stated statements.View (behind view_of t)
 statement_of _ = None
 
 -- the readers give the value of the tree that the grammar has of a whole text, and fail where it fails, where both may go as deep as there are tokens

@@ -2,6 +2,7 @@
 --   spec      := statement*
 --   statement := "relation" name "(" attr ("," attr)* ")" "key" "(" names ")" ";"
 --              | "inclusion" name "(" names ")" "in" name "(" names ")" ";"
+--              | "check" name "in" name "where" cond ";"
 --              | "view" name [ "(" names ")" ] "=" name ("join" name)* [ "where" cond ] ";"
 --   attr      := name ("int" | "text")
 --   names     := name ("," name)*
@@ -16,9 +17,10 @@ use Rattle.wh_grammar.specs.Grammar.{Parser, Part, ◌>>=◌, ◌>>◌, pure, to
 use Rattle.wh_grammar.specs.Conditions as conditions
 use Rattle.wh_schema.specs.declared.raw.RawRelation.{RawRelation}
 use Rattle.wh_schema.specs.declared.raw.RawInclusion.{RawInclusion}
+use Rattle.wh_schema.specs.declared.raw.RawCheck.{RawCheck}
 use Rattle.wh_schema.specs.declared.raw.RawView.{RawView}
 use Rattle.wh_schema.specs.declared.raw.RawStatement.{RawStatement}
-use Rattle.wh_schema.specs.declared.raw.RawStatement.TheVariants.{Relation, Inclusion, View}
+use Rattle.wh_schema.specs.declared.raw.RawStatement.TheVariants.{Relation, Inclusion, Check, View}
 
 -- `int` or `text`
 abbrev pub kind : Part Kind
@@ -63,6 +65,17 @@ inclusion_rest = do
   (token s.Semicolon).read
   pure (record { from = from; from_cols = left; to = to; to_cols = right })
 
+-- a check behind its first word
+unfoldable pub check_rest : ℕ → Parser RawCheck
+check_rest depth = do
+  n ← name.read
+  (token s.In).read
+  relation ← name.read
+  (token s.Where).read
+  c ← (conditions.cond depth).read
+  (token s.Semicolon).read
+  pure (record { name = n; relation = relation; cond = c })
+
 -- without a condition all rows are selected
 abbrev pub chosen : Option Cond → Cond
 chosen None = Always
@@ -95,13 +108,17 @@ relation = starts (token s.Relation) (λ _. relation_rest >>= (λ r. pure (Relat
 abbrev pub inclusion : Part RawStatement
 inclusion = starts (token s.Inclusion) (λ _. inclusion_rest >>= (λ r. pure (Inclusion r)))
 
+-- a `check` statement
+abbrev pub check : ℕ → Part RawStatement
+check depth = starts (token s.Check) (λ _. check_rest depth >>= (λ c. pure (Check c)))
+
 -- a `view` statement
 abbrev pub view : ℕ → Part RawStatement
 view depth = starts (token s.View) (λ _. view_rest depth >>= (λ v. pure (View v)))
 
 -- a statement
 abbrev pub statement : ℕ → Part RawStatement
-statement depth = relation or inclusion or view depth
+statement depth = relation or inclusion or check depth or view depth
 
 -- the statements of a whole text, whose conditions nest at most so deep
 abbrev pub statements : ℕ → Parser (List RawStatement)

@@ -24,20 +24,26 @@ abbrev pub IsHead : Option (List (List ℕ)) → Type 0
 IsHead None = Unit {0}
 IsHead (Some names) = AreNames names
 
--- no condition, or one that has a text in which at most 64 parentheses are open at once
+-- a condition that has a text in which at most 64 parentheses are open at once
+abbrev pub IsCondition : Cond → Type 0
+IsCondition c = IsTextual c × (is_shallow c 0 ≡ true)
+
+-- no condition, or one that has such a text
 abbrev pub IsSelection : Cond → Type 0
-IsSelection c = (c ≡ Always) ⊎ (IsTextual c × (is_shallow c 0 ≡ true))
+IsSelection c = (c ≡ Always) ⊎ IsCondition c
 
 -- a statement whose names are names, and whose condition has a text
 abbrev pub HasWords : RawStatement → Type 0
 HasWords (statements.Relation r) = IsName r.name × AreNames (names_of r.attrs) × AreNames r.key
 HasWords (statements.Inclusion c) = IsName c.from × AreNames c.from_cols × IsName c.to × AreNames c.to_cols
+HasWords (statements.Check c) = IsName c.name × IsName c.relation × IsCondition c.cond
 HasWords (statements.View v) = IsName v.name × IsHead v.head × AreNames v.relations × IsSelection v.cond
 
--- a statement with at most 2,000 connectives; those of a view are its `=`, its `join`s and the nodes of its condition
+-- a statement with at most 2,000 connectives; those of a check are the nodes of its condition, those of a view its `=`, its `join`s and the nodes of its condition
 abbrev pub IsShort : RawStatement → Type 0
 IsShort (statements.Relation r) = Unit {0}
 IsShort (statements.Inclusion c) = Unit {0}
+IsShort (statements.Check c) = nodes c.cond ≤ 2000
 IsShort (statements.View v) = length v.relations + nodes v.cond ≤ 2000
 
 -- a statement that its printed form gives

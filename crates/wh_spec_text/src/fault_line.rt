@@ -34,6 +34,7 @@ fn copy_cause(alloc: Global, cause: &SpecCause) -> Result<SpecCause, NoMemory>
         SpecCause::CyclicInclusion { cycle } => SpecCause::CyclicInclusion {
             cycle: cycle.copy(alloc)?,
         },
+        SpecCause::BadCheck => SpecCause::BadCheck,
         SpecCause::BadView => SpecCause::BadView,
         SpecCause::Limit { which } => SpecCause::Limit { which: *which },
     })

@@ -8,7 +8,7 @@ ghost use Rattle.wh_base.specs.RoomyText.{KeepsRoom};
 use std::alloc::Global;
 use wh_base::{Attr, ByteText, Cond, Kind, Name, NoMemory};
 use wh_grammar::print_cond;
-use wh_schema::{Inclusion, Relation, Spec, View};
+use wh_schema::{Check, Inclusion, Relation, Spec, View};
 
 // ---- lists
 
@@ -121,6 +121,18 @@ fn put_inclusion(out: &mut ByteText, spec: &Spec, inclusion: &Inclusion) -> Resu
     out.append(b";\n")
 }
 
+fn put_check(out: &mut ByteText, spec: &Spec, check: &Check) -> Result<(), NoMemory>
+    ensures { OnOk result (out.new.bytes ≡ out.old.bytes ++ printed.statement_text (printed.raw_check spec.now check.now)) }
+{
+    out.append(b"check ")?;
+    out.append(check.name.as_slice())?;
+    out.append(b" in ")?;
+    out.append(name_at(spec, check.relation))?;
+    out.append(b" where ")?;
+    print_cond(out, &check.cond)?;
+    out.append(b";\n")
+}
+
 fn put_where(out: &mut ByteText, cond: &Cond) -> Result<(), NoMemory>
     ensures { OnOk result (out.new.bytes ≡ out.old.bytes ++ printed.where_text cond.now) }
 {
@@ -165,6 +177,17 @@ fn put_inclusions(out: &mut ByteText, spec: &Spec, inclusions: &[Inclusion]) -> 
     Ok(())
 }
 
+fn put_checks(out: &mut ByteText, spec: &Spec, checks: &[Check]) -> Result<(), NoMemory>
+    ensures { OnOk result (out.new.bytes ≡ out.old.bytes ++ printed.statements_text (map (printed.raw_check spec.now) checks.now)) }
+{
+    let mut rest = checks;
+    'next: while let [check, more @ ..] = rest {
+        put_check(out, spec, check)?;
+        rest = more;
+    }
+    Ok(())
+}
+
 fn put_views(out: &mut ByteText, spec: &Spec, views: &[View]) -> Result<(), NoMemory>
     ensures { OnOk result (out.new.bytes ≡ out.old.bytes ++ printed.statements_text (map (printed.raw_view spec.now) views.now)) }
 {
@@ -182,11 +205,12 @@ fn printed_spec(alloc: Global, spec: &Spec) -> Result<ByteText, NoMemory>
     let mut text = ByteText::new(alloc);
     put_relations(&mut text, spec.relations.as_slice())?;
     put_inclusions(&mut text, spec, spec.inclusions.as_slice())?;
+    put_checks(&mut text, spec, spec.checks.as_slice())?;
     put_views(&mut text, spec, spec.views.as_slice())?;
     Ok(text)
 }
 
-/// Appends the printed form of a specification: relations, then inclusions, then views, one statement on a line.
+/// Appends the printed form of a specification: relations, then inclusions, then checks, then views, one statement on a line.
 pub fn print_spec(alloc: Global, spec: &Spec, out: &mut ByteText) -> Result<(), NoMemory>
     ensures ok { OnOk result (out.new.bytes ≡ out.old.bytes ++ spec_text spec.now) }
     ensures err { OnErr result (out.new.bytes ≡ out.old.bytes) }

@@ -6,7 +6,7 @@ ghost use Rattle.wh_spec_text.specs.SpecificationData.{SpecificationsAgree};
 use std::alloc::Global;
 use wh_base::{Attr, Attrs, Cond, Kind, Names, Sequence};
 use wh_grammar::{Cursor, Symbol, TextFault, cond};
-use wh_schema::{RawInclusion, RawRelation, RawSpec, RawStatement, RawView};
+use wh_schema::{RawCheck, RawInclusion, RawRelation, RawSpec, RawStatement, RawView};
 
 #[tactic(auto, unfolding(wh_grammar::specs::Grammar::same))]
 fn kind(cursor: &mut Cursor<'_>) -> Result<Kind, TextFault>
@@ -95,6 +95,24 @@ fn inclusion(alloc: Global, cursor: &mut Cursor<'_>) -> Result<RawInclusion, Tex
     })
 }
 
+/// A check behind its first word, whose condition nests at most so deep.
+#[tactic(auto, unfolding(crate::specs::Statements::check_rest, wh_grammar::specs::Grammar::same))]
+fn check(alloc: Global, cursor: &mut Cursor<'_>, depth: usize) -> Result<RawCheck, TextFault>
+    ensures { Reads (spec.check_rest depth cursor.old) result cursor.new }
+{
+    let name = cursor.name(alloc)?;
+    cursor.expect(Symbol::In)?;
+    let relation = cursor.name(alloc)?;
+    cursor.expect(Symbol::Where)?;
+    let cond = cond(alloc, cursor, depth)?;
+    cursor.expect(Symbol::Semicolon)?;
+    Ok(RawCheck {
+        name,
+        relation,
+        cond,
+    })
+}
+
 fn head(alloc: Global, cursor: &mut Cursor<'_>) -> Result<Option<Names>, TextFault>
     ensures { Reads (maybe spec.columns cursor.old) result cursor.new }
 {
@@ -151,6 +169,10 @@ fn statement(
         Symbol::Inclusion => {
             cursor.advance();
             Ok(RawStatement::Inclusion(inclusion(alloc, cursor)?))
+        }
+        Symbol::Check => {
+            cursor.advance();
+            Ok(RawStatement::Check(check(alloc, cursor, depth)?))
         }
         Symbol::View => {
             cursor.advance();

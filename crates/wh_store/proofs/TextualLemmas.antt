@@ -51,6 +51,7 @@ textual_is_numbered spec textual =
     let within = textual_is_within_limits spec textual in
     let relations = within.relations in
     let inclusions = within.inclusions in
+    let checks = within.checks in
     let views = within.views in
     omega arith
 

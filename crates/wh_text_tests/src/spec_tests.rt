@@ -57,6 +57,24 @@ const FAULTS: &[Told<'_>] = &[
         b"relation R(k int) key (k); view V = R; view W = V;",
         b"statement 3: unknown relation V",
     ),
+    (
+        b"relation R(k int) key (k); view V = R; check c in V where k = 1;",
+        b"statement 3: unknown relation V",
+    ),
+    (
+        b"relation R(k int) key (k); check c in R where k = 'a';",
+        b"statement 2: bad check",
+    ),
+    (
+        b"relation R(k int) key (k); check c in R where a = 1;",
+        b"statement 2: bad check",
+    ),
+    (
+        b"relation R(k int) key (k); check c in R where k = 1; check c in R where k = 2;",
+        b"statement 3: repeated name c",
+    ),
+    // A check has a condition.
+    (b"relation R(k int) key (k); check c in R;", b"byte 39: syntax"),
 ];
 
 const REPEATED_FAULTS: &[Repeated<'_>] = &[
@@ -161,6 +179,27 @@ const REPEATED_FAULTS: &[Repeated<'_>] = &[
         after: b" = 1;",
         line: b"statement 2: limit: name",
     },
+    Repeated {
+        before: b"relation R(k int) key (k); check ",
+        piece: b"c",
+        count: 65,
+        after: b" in R where k = 1;",
+        line: b"statement 2: limit: name",
+    },
+    Repeated {
+        before: b"relation R(k int) key (k); check c in R where ",
+        piece: b"not ",
+        count: 999,
+        after: b"k = 1;",
+        line: b"",
+    },
+    Repeated {
+        before: b"relation R(k int) key (k); check c in R where ",
+        piece: b"not ",
+        count: 1000,
+        after: b"k = 1;",
+        line: b"statement 2: limit: nodes",
+    },
 ];
 
 // A text before 78 statements, what stands in each around a name of two letters, and the line.
@@ -176,6 +215,12 @@ const NAMED_FAULTS: &[(&[u8], &[u8], &[u8], &[u8])] = &[
         b"view ",
         b" = R;",
         b"statement 66: limit: views",
+    ),
+    (
+        b"relation R(k int) key (k);",
+        b"check ",
+        b" in R where k = 1;",
+        b"statement 66: limit: checks",
     ),
 ];
 
@@ -199,6 +244,19 @@ view Sold = Sale join Emp;
         b"relation Emp(clerk text, age int) key (clerk);
 relation Sale(item text, clerk text) key (item, clerk);
 view Sold(item, clerk, age) = Sale join Emp;
+",
+    ),
+    // The names of checks are apart from those of relations and views.
+    (
+        b"relation E(a int, b text) key (a); check E in E where a>0; view V = E;
+        check C_E in E where not(b = '' or a=1) and b<>'x'; relation F(a int) key (a); inclusion F(a) in E(a); check V in F where a<9;",
+        b"relation E(a int, b text) key (a);
+relation F(a int) key (a);
+inclusion F(a) in E(a);
+check E in E where a > 0;
+check C_E in E where not (b = '' or a = 1) and b <> 'x';
+check V in F where a < 9;
+view V(a, b) = E;
 ",
     ),
 ];
@@ -307,7 +365,7 @@ fn is_printed(alloc: Global, text: &[u8], told: &[u8]) -> Result<bool, NoMemory>
 
 fn are_printed(alloc: Global) -> Result<bool, NoMemory> {
     for (text, told) in PRINTED {
-        if !is_printed(alloc, text, told)? {
+        if !is_printed(alloc, text, told)? || !is_printed(alloc, told, told)? {
             return Ok(false);
         }
     }

@@ -1,24 +1,41 @@
-use Rattle.std.proofs.Common.{◌≡◌, ◌+◌, ◌∙◌, sym, ap, arith, map, length}
-use Rattle.std.proofs.lemmas.List.FromFn.{length-map-range_with_len}
-use Rattle.std.proofs.lemmas.Result.{IfOk-weaker}
-use Rattle.wh_schema.specs.Constraints.{repeated_keys, missing_values, first_break}
-use Rattle.wh_schema.specs.Warehouse.{numbers}
-use Rattle.wh_load.proofs.BreakLemmas.{first_of_both, second_of_both}
+use Rattle.std.proofs.Common.{◌≡◌, ◌<◌, ◌∙◌, sym, ap, arith, length, get_or}
+use Rattle.std.proofs.lemmas.List.{get_or_default}
+use Rattle.wh_schema.specs.declared.constraint.Constraint.TheVariants.{Key}
+use Rattle.wh_schema.specs.Constraints.{constraints}
+use Rattle.wh_schema.proofs.Numbered.{constraints_long}
+use Rattle.wh_load.proofs.BreakLemmas.{ends_here, goes_on}
 use Rattle.wh_load.proofs.broken.first_broken.Goals as goal
 
-pub returns-in-Some : goal.returns-in-Some
-returns-in-Some c =
-    let spec = c.args.spec.now in
-    let keys = map (repeated_keys spec c.args.s.now) (numbers (length spec.relations)) in
-    let inclusions = map (missing_values spec c.args.s.now) spec.inclusions in
-    sym (first_of_both 1 keys inclusions c.in-Some.key (sym c.in_ok-key.ensures ∙ c.in-Some.is))
+pub overflow_cast-place : goal.overflow_cast-place
+overflow_cast-place c =
+    let items = c.as_slice-constraint-items.ensures ∙ c.in_ok-constraints.ensures in
+    omega (arith, ap length items, constraints_long c.args.spec.now, c.loop-place-test.true, c.requires.numbered)
 
-pub returns-in-None : goal.returns-in-None
-returns-in-None c =
+pub overflow_add-place : goal.overflow_add-place
+overflow_add-place c =
+    let items = c.as_slice-constraint-items.ensures ∙ c.in_ok-constraints.ensures in
+    omega (arith, ap length items, constraints_long c.args.spec.now, c.loop-place-test.true, c.requires.numbered)
+
+pub returns-then-is_some : goal.returns-then-is_some
+returns-then-is_some c =
     let spec = c.args.spec.now in
-    let keys = map (repeated_keys spec c.args.s.now) (numbers (length spec.relations)) in
-    let inclusions = map (missing_values spec c.args.s.now) spec.inclusions in
-    let counted : length spec.relations + 1 ≡ length keys + 1 = omega (arith, length-map-range_with_len (repeated_keys spec c.args.s.now) 0 (length spec.relations)) in
-    IfOk-weaker c.broken_inclusion.result _ _
-    (λ first h. h ∙ ap (λ n. first_break n inclusions) counted ∙ sym (second_of_both 1 keys inclusions (sym c.in_ok-key.ensures ∙ c.in-None.is)))
-    c.broken_inclusion.ensures
+    let i = c.loop-place.place in
+    let items = c.as_slice-constraint-items.ensures ∙ c.in_ok-constraints.ensures in
+    let within : i < length (constraints spec) = omega (arith, ap length items, c.loop-place-test.true) in
+    let item = get_or c.as_slice-constraint-items.result.now i (Key 0) in
+    let at : item ≡ get_or (constraints spec) i item = ap (λ cs. get_or cs i (Key 0)) items ∙ get_or_default (constraints spec) i (Key 0) item within in
+    ends_here spec c.args.s.now i item c.in_ok-values.values c.in_ok-least.least within at c.in_ok-values.ensures c.in_ok-least.ensures
+    (sym c.is_some.ensures ∙ c.if-is_some.true)
+    ∙ sym c.loop-place.invariant
+
+pub loop-place-preserved : goal.loop-place-preserved
+loop-place-preserved c =
+    let spec = c.args.spec.now in
+    let i = c.loop-place.place in
+    let items = c.as_slice-constraint-items.ensures ∙ c.in_ok-constraints.ensures in
+    let within : i < length (constraints spec) = omega (arith, ap length items, c.loop-place-test.true) in
+    let item = get_or c.as_slice-constraint-items.result.now i (Key 0) in
+    let at : item ≡ get_or (constraints spec) i item = ap (λ cs. get_or cs i (Key 0)) items ∙ get_or_default (constraints spec) i (Key 0) item within in
+    c.loop-place.invariant
+    ∙ goes_on spec c.args.s.now i item c.in_ok-values.values c.in_ok-least.least within at c.in_ok-values.ensures c.in_ok-least.ensures
+    (sym c.is_some.ensures ∙ c.if-is_some.false)
