@@ -10,6 +10,7 @@ use Rattle.wh_journal.specs.File.{is_empty}
 use Rattle.wh_store.specs.declared.warehouse.Which.TheVariants.{First}
 use Rattle.wh_store.specs.Image.{Holding, holding}
 use Rattle.wh_store.specs.Store.{are_empty, is_too_large, loaded_file, IsEmptyOrLoaded}
+use Rattle.wh_store.proofs.NoStore.{empty_holds, load_is_full}
 use Rattle.wh_command.specs.declared.load.Stock.{Stock}
 use Rattle.wh_command.specs.declared.show.Shown.{Shown}
 use Rattle.wh_command.specs.declared.status.Status.{Status}
@@ -23,7 +24,7 @@ use Rattle.wh_command.specs.Outcome.{Outcome, state_after, IsReached}
 use Rattle.wh_command.specs.Show.{shown}
 use Rattle.wh_command.specs.Steps.{Settles, NamesRead, UnlessDisk, OnStop, is_read_fault, is_write_fault}
 use Rattle.wh_command.specs.Words.{warehouse_file_words}
-use Rattle.wh_command.proofs.Stores.{empty_holds, load_is_full, Stays, CountsNow, rest_on, leave_on, rest_still, leave_still, crash_still}
+use Rattle.wh_command.proofs.Stores.{Stays, CountsNow, rest_on, leave_on, rest_still, leave_still, crash_still}
 use Rattle.wh_command.proofs.Written.{crash_from, wrote_none}
 
 pub loads_start : (start : Holding) (r : Result Shown Stop) → (loads start r).start ≡ start

@@ -160,7 +160,7 @@ held_same active a b c e same = held_in active.which active a b c active.image r
 body_read : (n : ℕ) (deltas : List Delta) → n < 2 ^ 64 → length deltas < 2 ^ 32 → AllByRecursion IsSpelledDelta deltas → frame_of (change_body n deltas) ≡ Some (Change n deltas)
 body_read n deltas small count spelled = body_again (change_body n deltas) (Change n deltas) (record { spelled = record { seq = small; count = count; deltas = spelled }; bytes = refl })
 
-held_more : (active : Active) (deltas : List Delta) (a b c : List ℕ) → active.image.seq < 2 ^ 64 - 1 → holding a b ≡ Ok (Some active) → MayFollow active.image deltas
+pub held_more : (active : Active) (deltas : List Delta) (a b c : List ℕ) → active.image.seq < 2 ^ 64 - 1 → holding a b ≡ Ok (Some active) → MayFollow active.image deltas
     → frames_of c ≡ with_frame (frames_of (file_in active.which a b)) (change_body (active.image.seq + 1) deltas) → held_with active.which c a b ≡ Ok (Some (active_with active deltas))
 held_more active deltas a b c small e may more =
     held_in active.which active a b c (image_with active.image deltas) refl e

@@ -1,7 +1,7 @@
 mod Allowed
 pub mod Alone
 pub mod ChangedTables
-mod CommitLemmas
+pub mod CommitLemmas
 mod CreateLemmas
 pub mod FirstByte
 pub mod FrameLemmas
@@ -9,6 +9,7 @@ mod FrameOrder
 mod HeldTables
 pub mod HeldValues
 pub mod Loaded
+pub mod NoStore
 pub mod OpenLemmas
 pub mod Searches
 pub mod SoundFiles
