@@ -1,16 +1,11 @@
-use Rattle.std.proofs.Common.{◌∙◌, ℕ, ◌+◌, List, [], ◌∷◌, length, Ok, refl, sym, ap, subst, arith}
-use Rattle.wh_base.specs.declared.value.Value.{Value}
+use Rattle.std.proofs.Common.{◌∙◌, ℕ, ◌+◌, List, [], ◌∷◌, length, Ok, refl, ap, arith}
 use Rattle.wh_journal.specs.declared.journal.Journal.{Journal}
 use Rattle.wh_journal.proofs.Framing.{length-framed}
-use Rattle.wh_plan.specs.declared.plan.Plan.{Plan}
 use Rattle.wh_journal.specs.File.{framed}
 use Rattle.wh_store.specs.Store.{loaded_body}
-use Rattle.wh_store.specs.Warehouse.{HasRows}
-use Rattle.wh_store.specs.Opening.{AreSpelledTables}
 use Rattle.wh_store.proofs.Alone.{created_leaves}
 use Rattle.wh_store.proofs.CreateLemmas.{created, settled_still, told_full, untold_full, written}
 use Rattle.wh_store.proofs.Loaded.{alone_holds, spelled_snapshot}
-use Rattle.wh_store.proofs.SpelledTables.{tables_values}
 use Rattle.wh_store.proofs.creation.create.Goals as goal
 
 pub returns-in_err-journal-clause-any_moment : goal.returns-in_err-journal-clause-any_moment
