@@ -7,6 +7,8 @@ pub mod Load
 pub mod Make
 pub mod Outcome
 pub mod Plan
+pub mod Plans
+pub mod Profiles
 pub mod Refresh
 pub mod RefreshSteps
 pub mod Report

@@ -1,5 +1,4 @@
 pub mod Asked
-pub mod BySets
 pub mod Follows
 pub mod History
 pub mod Judged
