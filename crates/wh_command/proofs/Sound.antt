@@ -4,7 +4,7 @@ use Rattle.std.specs.List.{AllByRecursion}
 use Rattle.std.proofs.lemmas.Bool.{and_parts}
 use Rattle.wh_base.specs.declared.value.Delta.{Delta}
 use Rattle.wh_check.specs.Check.{sources_after}
-use Rattle.wh_fit.specs.Differences.{AreChangeOf, difference}
+use Rattle.wh_fit.specs.Differences.{AreChangeOf, differences}
 use Rattle.wh_fit.specs.Held.{IsFittingImage}
 use Rattle.wh_fit.proofs.Refreshes as fit
 use Rattle.wh_fit.proofs.TextSpecs.{found}
@@ -158,21 +158,18 @@ whole_after i deltas whole may =
     }
 
 legal_by : (i : Image) (read : Option (List ℕ)) (lines : List Line) → IsLegalStore i → IsTaken i read lines → IsLegalStore (image_with i (stored_changes i lines))
-legal_by i read lines store is = by i.tables refl store.tables is.legal
-  where
-    abbrev by : (tables : List (List Row)) → i.tables ≡ tables → tables ≡ stored i.spec store.sources → broken i.spec (apply (reconstructed i.spec tables) lines) ≡ None
-        → IsLegalStore (image_with i (stored_changes i lines))
-    by tables same tables_is none =
-        let spec = i.spec in
-        let s = store.sources in
-        let legal_is : broken spec (apply (reconstructed spec (stored spec s)) lines) ≡ None = subst (λ (t : List (List Row)). broken spec (apply (reconstructed spec t) lines) ≡ None) tables_is none in
-        record {
-          whole = whole_after i (stored_changes i lines) store.whole (taken_may i read lines store.whole is);
-          few = store.few;
-          sources = apply s lines;
-          legal = legal_after spec s store.legal lines is.fit legal_is;
-          tables = ap (λ (t : List (List Row)). changed_tables t (differences t (stored spec (apply (reconstructed spec t) lines)))) store.tables ∙ tables_are spec s store.legal lines is.fit;
-        }
+legal_by i read lines store is =
+    let spec = i.spec in
+    let s = store.sources in
+    record {
+      whole = whole_after i (stored_changes i lines) store.whole (taken_may i read lines store.whole is);
+      few = store.few;
+      sources = apply s lines;
+      legal = legal_after spec s store.legal lines is.fit (subst (λ (t : List (List Row)). broken spec (apply (reconstructed spec t) lines) ≡ None) store.tables is.legal);
+      tables =
+          ap (λ (t : List (List Row)). changed_tables t (differences t (stored spec (apply (reconstructed spec t) lines)))) store.tables
+          ∙ tables_are spec s store.legal lines is.fit;
+    }
 
 module _ (held : Held) (active : Active) (name : List ℕ) where
   abbrev Judged : Result (List Line) Rejection → Type 0
