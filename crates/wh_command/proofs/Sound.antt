@@ -53,13 +53,13 @@ still_allowed [] m none = tt
 still_allowed (step ∷ steps) m none =
     subst (λ (change : Option Change). IsAllowed store_format in_place change m × AreAllowed store_format in_place steps (step_meaning store_format change m)) (sym none.0) (tt, still_allowed steps m none.1)
 
-still_led : (steps : List (Step Change)) (m : Holding) (k : ℕ) → HaveNoChange steps → led store_format m (take k steps) ≡ m
+pub still_led : (steps : List (Step Change)) (m : Holding) (k : ℕ) → HaveNoChange steps → led store_format m (take k steps) ≡ m
 still_led [] m zero none = refl
 still_led [] m (suc k) none = refl
 still_led (step ∷ steps) m zero none = refl
 still_led (step ∷ steps) m (suc k) none = ap (λ (change : Option Change). led store_format (step_meaning store_format change m) (take k steps)) none.0 ∙ still_led steps m k none.1
 
-texts_still : (texts : List (List ℕ)) → HaveNoChange (map text_step texts)
+pub texts_still : (texts : List (List ℕ)) → HaveNoChange (map text_step texts)
 texts_still [] = tt
 texts_still (text ∷ texts) = (refl, texts_still texts)
 
@@ -179,7 +179,7 @@ module _ (held : Held) (active : Active) (name : List ℕ) where
   file_allowed (Ok lines) is whole = taken_may active.image (held name) lines whole (taken_from active.image (held name) lines is)
   file_allowed (Err rejection) is whole = tt
 
-  file_leads : (r : Result (List Line) Rejection) → step_meaning store_format (change_by active.image r) (Ok (Some active)) ≡ Ok (Some (taken_by active r).active)
+  pub file_leads : (r : Result (List Line) Rejection) → step_meaning store_format (change_by active.image r) (Ok (Some active)) ≡ Ok (Some (taken_by active r).active)
   file_leads (Ok lines) = refl
   file_leads (Err rejection) = refl
 

@@ -9,6 +9,7 @@ mod load;
 mod make;
 mod naming;
 mod plan;
+mod program;
 mod refresh;
 mod refresh_file;
 mod refresh_line;
@@ -20,5 +21,6 @@ mod store;
 mod words;
 
 pub use command::perform;
+pub use program::{StoreCommands, plans_are_outcomes};
 pub use status::Status;
 pub use stop::{Stop, tell};
