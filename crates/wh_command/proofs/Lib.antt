@@ -13,7 +13,6 @@ pub mod MakeRun
 pub mod Making
 pub mod Numbered
 pub mod Passed
-pub mod Planned
 pub mod ReadNames
 pub mod Ready
 pub mod RefreshAll

@@ -7,7 +7,6 @@ pub mod Load
 pub mod Make
 pub mod Outcome
 pub mod Plan
-pub mod PlanLaws
 pub mod Plans
 pub mod Profiles
 pub mod Refresh

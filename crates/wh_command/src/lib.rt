@@ -9,7 +9,6 @@ mod load;
 mod make;
 mod naming;
 mod plan;
-mod program;
 mod refresh;
 mod refresh_file;
 mod refresh_line;
@@ -21,6 +20,5 @@ mod store;
 mod words;
 
 pub use command::perform;
-pub use program::{StoreCommands, plans_are_outcomes};
 pub use status::Status;
 pub use stop::{Stop, tell};

@@ -3,5 +3,6 @@ pub mod Follows
 pub mod History
 pub mod Judged
 pub mod Loaded
+pub mod Planned
 pub mod Refreshed
 pub mod Shown

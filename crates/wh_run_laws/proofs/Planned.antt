@@ -13,7 +13,7 @@ use Rattle.wh_command.specs.Commands.{Command, show, plan, load, refresh, query,
 use Rattle.wh_command.specs.Load.{load_outcome, loaded_state, loaded_text, loading, loads}
 use Rattle.wh_command.specs.Make.{case_outcome, changes_outcome, made_files}
 use Rattle.wh_command.specs.Outcome.{Outcome, Piece, followed, last_state, state_after, stays}
-use Rattle.wh_command.specs.PlanLaws.{IsPlanOf, PlansAreOutcomes}
+use Rattle.wh_run_laws.specs.PlanLaws.{IsPlanOf, PlansAreOutcomes}
 use Rattle.wh_command.specs.Plans.{active_after, case_plan, file_steps, files_plan, load_plan, planned, text_step, texts_plan}
 use Rattle.wh_command.specs.Refresh.{accepted, opened_active, refresh_outcome, refresh_pieces, refresh_status, taken}
 use Rattle.wh_command.specs.Report.{report_outcome}

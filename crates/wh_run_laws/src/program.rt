@@ -1,6 +1,6 @@
 // The commands as a program over the two files of a store.
 ghost use Rattle.wh_command.proofs.Sound.{warehouse_sound};
-ghost use Rattle.wh_command.specs.PlanLaws.{PlansAreOutcomes};
+ghost use Rattle.wh_run_laws.specs.PlanLaws.{PlansAreOutcomes};
 ghost use Rattle.wh_command.specs.Profiles.{warehouse};
 
 use wh_runs::Commands;

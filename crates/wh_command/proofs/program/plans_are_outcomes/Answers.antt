@@ -1,5 +1,0 @@
-use Rattle.wh_command.proofs.Planned.{plans_are_outcomes}
-use Rattle.wh_command.proofs.program.plans_are_outcomes.Goals as goal
-
-pub returns : goal.returns
-returns c = plans_are_outcomes
