@@ -110,7 +110,7 @@ within_ok spec s None w is = (refl, cc (is))
 within_ok spec s (Some k) w is = absurd (cc (is))
 
 legal_ok : (spec : Spec) (s : State) (first : Option Broken) (w : Shown) → tables_unless spec s first ≡ Ok w → (first ≡ None) × (first_over (stored spec s) ≡ None) × (shown spec (stored spec s) ≡ w)
-legal_ok spec s None w is = (refl, within_ok spec s (first_over (stored spec s)) w is)
+legal_ok spec s None w is = let kept = within_ok spec s (first_over (stored spec s)) w is in (refl, kept.0, kept.1)
 legal_ok spec s (Some b) w is = absurd (cc (is))
 
 -- what a load is of

@@ -1,5 +1,5 @@
 -- The commands as a program over the two files of a store: all in which they differ, and what the files of a store mean that only they have written.
-use Rattle.std.specs.Prelude.{◌≡◌, ℕ, ◌<◌, ◌^◌, true, List, [], length, get_or, Option, None, Some, Ok, Err}
+use Rattle.std.specs.Prelude.{◌≡◌, ℕ, ◌<◌, ◌^◌, true, false, List, [], length, get_or, Option, None, Some, Ok, Err}
 use Rattle.wh_fit.specs.Held.{IsFittingImage}
 use Rattle.wh_format.specs.Format.{Change, store_format}
 use Rattle.wh_io.specs.Files.{Held}
@@ -65,8 +65,8 @@ CommandProfile = Profile Holding Change Status Stop
 
 -- a command on the two files that reads no others, as many bytes of the two as it will, and ends with Ok
 abbrev pub alone_on_store : (Held → Holding → CommandPlan) → CommandProfile
-alone_on_store plan = record {
-  planned = plan;
+alone_on_store planning = record {
+  planned = planning;
   manner = in_place;
   is_apart = false;
   reads_files = false;
@@ -78,7 +78,7 @@ alone_on_store plan = record {
 
 -- one that reads others
 abbrev pub reading : (Held → Holding → ℕ → List ℕ → Type 0) → (Held → Holding → CommandPlan) → CommandProfile
-reading may_read plan = record (alone_on_store plan) { reads_files = true; may_read = may_read }
+reading may_read planning = record (alone_on_store planning) { reads_files = true; may_read = may_read }
 
 -- No byte of the two files is read twice where change files are taken.
 abbrev pub profile_of : Command → CommandProfile
