@@ -15,7 +15,7 @@ use Rattle.wh_command.specs.Make.{case_outcome, changes_outcome, made_files}
 use Rattle.wh_command.specs.Outcome.{Outcome, Piece, followed, last_state, state_after, stays}
 use Rattle.wh_run_laws.specs.PlanLaws.{IsPlanOf, PlansAreOutcomes}
 use Rattle.wh_command.specs.Plans.{active_after, case_plan, file_steps, files_plan, load_plan, planned, text_step, texts_plan}
-use Rattle.wh_command.specs.Refresh.{accepted, opened_active, refresh_outcome, refresh_pieces, refresh_status, taken}
+use Rattle.wh_command.specs.Refresh.{accepted, file_text, opened_active, refresh_outcome, refresh_pieces, refresh_status, taken}
 use Rattle.wh_command.specs.Report.{report_outcome}
 use Rattle.wh_command.proofs.Sound.{file_leads, still_led, texts_still}
 
@@ -68,7 +68,7 @@ module _ (held : Held) where
   module _ (pieces : List Piece) (steps : List (Step Change)) (texts : map text_of pieces ≡ map step_text steps) where
     files_texts : (names : List (List ℕ)) (active : Active) → map text_of (refresh_pieces held active names ++ pieces) ≡ map step_text (file_steps held active names ++ steps)
     files_texts [] active = texts
-    files_texts (name ∷ names) active = ap (λ (more : List (List ℕ)). _ ∷ more) (files_texts names (taken held active name).active)
+    files_texts (name ∷ names) active = ap (λ (more : List (List ℕ)). file_text name (taken held active name).words ∷ more) (files_texts names (taken held active name).active)
 
     files_states : (names : List (List ℕ)) (active : Active) → ((k : ℕ) → state_after (Ok (Some (active_after held active names))) pieces k ≡ led store_format (Ok (Some (active_after held active names))) (take k steps))
         → (k : ℕ) → state_after (Ok (Some active)) (refresh_pieces held active names ++ pieces) k ≡ led store_format (Ok (Some active)) (take k (file_steps held active names ++ steps))

@@ -11,4 +11,4 @@ pub use laws::{
     refreshes_as_judged, refusal_has_cause, refused_exactly, report_prints_state,
     show_prints_stored, show_refuses_broken, stays_apart, usage_has_cause, write_fault_has_cause,
 };
-pub use program::{StoreCommands, plans_are_outcomes};
+pub use program::{histories_are_legal, plans_are_outcomes, warehouse_is_sound};

@@ -1,20 +1,25 @@
-// The commands as a program over the two files of a store.
-ghost use Rattle.wh_command.proofs.Sound.{warehouse_sound};
-ghost use Rattle.wh_run_laws.specs.PlanLaws.{PlansAreOutcomes};
+// The commands as a program over the two files of a store. The functions have no code.
 ghost use Rattle.wh_command.specs.Profiles.{warehouse};
+ghost use Rattle.wh_run_laws.specs.PlanLaws.{PlansAreOutcomes};
+ghost use Rattle.wh_runs.specs.Disks.{form};
+ghost use Rattle.wh_runs.specs.Laws.{Headline};
+ghost use Rattle.wh_runs.specs.Program.{IsSound};
 
-use wh_runs::Commands;
+use wh_io::Disk;
 
-/// The commands over the two files of a store, and words that name none of them. What the laws of runs say of any commands holds of these.
-pub struct StoreCommands;
-
-impl Commands for StoreCommands {
-    ghost program = { warehouse };
-
-    ghost sound = { warehouse_sound };
-}
+/// The commands plan only changes that may be written, what is written means what is planned, and what only they have written is no store or
+/// what is stored of a legal state.
+pub fn warehouse_is_sound()
+    ensures { IsSound warehouse }
+{}
 
 /// Each command plans what it comes to: the same texts, the same states and the same finish.
 pub fn plans_are_outcomes()
     ensures { PlansAreOutcomes }
+{}
+
+/// Whatever may be left behind any history of runs and kills of commands that answer what they should means what its runs made of two empty
+/// files, and that is no store or a legal one.
+pub fn histories_are_legal<F, D: Disk>()
+    ensures { Headline F (form D.Disk) warehouse }
 {}
