@@ -1,7 +1,6 @@
 -- What fitting lines make of the sources that stored tables give back, and of the tables.
 use Rattle.std.proofs.Common.{◌≡◌, List, None, refl, sym, ◌∙◌, ap}
 use Rattle.std.specs.List.{AllByRecursion}
-use Rattle.wh_base.specs.declared.value.Delta.{Delta}
 use Rattle.wh_check.proofs.BrokenLemmas.{broken_goes_by_sets}
 use Rattle.wh_fit.specs.Differences.{differences}
 use Rattle.wh_fit.specs.Fit.{IsFittingLine}

@@ -14,8 +14,7 @@ use Rattle.wh_io.specs.Files.{Held}
 use Rattle.wh_plan.specs.declared.plan.PlanFault.{PlanFault}
 use Rattle.wh_plan.specs.declared.plan.PlanFault.TheVariants as plan
 use Rattle.wh_plan.specs.Plan.{too_many}
-use Rattle.wh_refresh.specs.Refresh.{checked, next_body, refreshed, sized, stored_changes}
-use Rattle.wh_refresh.specs.declared.fault.RefreshFault.{RefreshFault}
+use Rattle.wh_refresh.specs.Refresh.{checked, next_body, sized, stored_changes}
 use Rattle.wh_refresh.specs.declared.fault.RefreshFault.TheVariants as fault
 use Rattle.wh_schema.specs.declared.broken.Broken.{Broken}
 use Rattle.wh_schema.specs.declared.spec.Relation.{Relation}

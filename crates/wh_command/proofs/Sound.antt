@@ -1,31 +1,28 @@
 -- The commands keep to the format of the files, and what only they have written is no store or a legal one.
-use Rattle.std.proofs.Common.{◌≡◌, ℕ, zero, suc, ◌+◌, ◌-◌, ◌^◌, ◌<◌, ◌==◌, true, false, not, List, [], ◌∷◌, ◌++◌, map, length, take, Option, None, Some, is_some, Result, Ok, Err, refl, sym, ◌∙◌, ap, subst, arith, append-nil}
-use Rattle.std.specs.List.{AllByRecursion}
+use Rattle.std.proofs.Common.{◌≡◌, ℕ, zero, suc, ◌-◌, ◌^◌, ◌<◌, ◌==◌, true, false, not, List, [], ◌∷◌, ◌++◌, map, length, take, Option, None, Some, is_some, Result, Ok, Err, refl, sym, ◌∙◌, ap, subst, arith, append-nil}
 use Rattle.std.proofs.lemmas.Bool.{and_parts}
 use Rattle.wh_base.specs.declared.value.Delta.{Delta}
 use Rattle.wh_check.specs.Check.{sources_after}
 use Rattle.wh_fit.specs.Differences.{AreChangeOf, differences}
-use Rattle.wh_fit.specs.Held.{IsFittingImage}
 use Rattle.wh_fit.proofs.Refreshes as fit
 use Rattle.wh_fit.proofs.TextSpecs.{found}
-use Rattle.wh_format.specs.Format.{Change, loads, refreshes, MayLoad, MayRefresh, changed, store_format}
+use Rattle.wh_format.specs.Format.{Change, MayLoad, MayRefresh, store_format}
 use Rattle.wh_format.proofs.Written.{written_means, keeps_active}
 use Rattle.wh_gen.specs.Files.{case_dir, case_spec, change_names}
 use Rattle.wh_io.specs.Files.{Held}
-use Rattle.wh_laws.specs.Laws.{LegalState}
 use Rattle.wh_laws.proofs.Changes.{broken_none}
 use Rattle.wh_laws.proofs.Stored.{length_numbers_map}
-use Rattle.wh_refresh.specs.Refresh.{next_body, stored_changes}
+use Rattle.wh_refresh.specs.Refresh.{stored_changes}
 use Rattle.wh_report.specs.Report.{report_text}
-use Rattle.wh_runs.specs.Program.{Manner, in_place, moves, Step, AreAllowed, HaveNoChange, HaveOneChange, IsAllowed, IsSound, led, step_meaning, steps_of, steps_over}
+use Rattle.wh_runs.specs.Program.{in_place, moves, Step, AreAllowed, HaveNoChange, HaveOneChange, IsAllowed, IsSound, led, step_meaning, steps_of, steps_over}
 use Rattle.wh_schema.specs.declared.spec.Spec.{Spec}
 use Rattle.wh_schema.specs.Changes.{Line, apply}
 use Rattle.wh_schema.specs.Constraints.{broken}
 use Rattle.wh_schema.specs.Reconstruction.{reconstructed}
-use Rattle.wh_schema.specs.Warehouse.{Row, State, stored}
+use Rattle.wh_schema.specs.Warehouse.{Row, stored}
 use Rattle.wh_spec_text.specs.Printed.{spec_text}
-use Rattle.wh_store.specs.Commit.{active_with, image_with}
-use Rattle.wh_store.specs.Image.{Active, Holding, Image, apply_to, are_stored_tables, changed_tables, first_over, fit_stored, holding}
+use Rattle.wh_store.specs.Commit.{image_with}
+use Rattle.wh_store.specs.Image.{Active, Holding, Image, apply_to, are_stored_tables, changed_tables, first_over, fit_stored}
 use Rattle.wh_store.specs.Store.{loaded, loaded_image}
 use Rattle.wh_store.proofs.ChangedTables.{changed_ascend}
 use Rattle.wh_store.proofs.Loaded.{few_tables}
@@ -37,10 +34,9 @@ use Rattle.wh_command.specs.declared.stop.Stop.{Stop}
 use Rattle.wh_command.specs.Commands.{Command, show, plan, load, refresh, query, dump, audit, report, make}
 use Rattle.wh_command.specs.Load.{loading}
 use Rattle.wh_command.specs.Make.{made_files}
-use Rattle.wh_command.specs.Plans.{active_after, case_plan, case_steps, change_by, file_step, file_steps, files_plan, load_plan, load_step, text_step, texts_plan}
+use Rattle.wh_command.specs.Plans.{active_after, case_plan, case_steps, change_by, file_steps, files_plan, load_plan, load_step, text_step, texts_plan}
 use Rattle.wh_command.specs.Profiles.{IsLegal, IsLegalStore, IsTellable, IsWhole, profile, warehouse}
-use Rattle.wh_command.specs.Refresh.{Rejection, accepted, accepted_lines, lines_in, opened_active, taken, taken_by}
-use Rattle.wh_command.specs.Show.{shown}
+use Rattle.wh_command.specs.Refresh.{Rejection, accepted, opened_active, taken, taken_by}
 use Rattle.wh_command.proofs.Fitting.{load_is}
 use Rattle.wh_command.proofs.Legal.{legal_after, tables_are}
 use Rattle.wh_command.proofs.Passed.{IsLoadFrom, IsTaken, dumps_from, load_from, spec_few, spec_from, taken_from}
@@ -201,7 +197,7 @@ module _ (held : Held) (last : List (Step Change)) (none : HaveNoChange last) wh
       let judged = accepted held active name in (
         file_allowed held active name judged refl whole,
         subst (AreAllowed store_format in_place (file_steps held (taken held active name).active names ++ last)) (sym (file_leads held active name judged))
-        (files_allowed names (taken held active name).active (file_whole held active name judged refl whole)),
+            (files_allowed names (taken held active name).active (file_whole held active name judged refl whole)),
       )
 
   files_stay : (names : List (List ℕ)) (active : Active) (k : ℕ) → IsLegalStore active.image → IsLegal (led store_format (Ok (Some active)) (take k (file_steps held active names ++ last)))

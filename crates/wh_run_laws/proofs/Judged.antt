@@ -1,35 +1,25 @@
 -- A file is accepted or refused as the sources that the store stands for judge it.
-use Rattle.std.proofs.Common.{◌≡◌, ℕ, ◌+◌, ◌-◌, ◌^◌, ◌==◌, Bool, true, false, nat_lt, if◌then◌else◌, List, [], ◌∷◌, ◌++◌, map, length, Option, None, Some, Result, Ok, Err, codes, refl, sym, ◌∙◌, ap, subst}
+use Rattle.std.proofs.Common.{◌≡◌, ℕ, ◌+◌, ◌-◌, ◌^◌, ◌==◌, Bool, true, false, if◌then◌else◌, List, ◌++◌, Option, None, Some, Result, Ok, Err, codes, refl, sym, ◌∙◌, ap, subst}
 use Rattle.std.specs.Prelude.{decimal}
 use Rattle.std.specs.List.{AllByRecursion}
 use Rattle.wh_base.specs.declared.value.Delta.{Delta}
 use Rattle.wh_check.specs.Check.{source_deltas}
-use Rattle.wh_csv.specs.declared.change.Line as csv
-use Rattle.wh_csv.specs.declared.fault.CsvFault.{CsvFault}
-use Rattle.wh_csv.specs.declared.fault.CsvFault.TheVariants as csv_fault
-use Rattle.wh_csv.specs.Change.{change_of}
 use Rattle.wh_fit.specs.Differences.{differences}
-use Rattle.wh_fit.specs.Fit.{IsFittingLine, as_line}
-use Rattle.wh_fit.proofs.LineLemmas.{changes_fit}
-use Rattle.wh_fit.proofs.StoredKinds.{stored_count_is}
+use Rattle.wh_fit.specs.Fit.{IsFittingLine}
 use Rattle.wh_io.specs.Files.{Held}
 use Rattle.wh_laws.specs.Laws.{LegalState}
 use Rattle.wh_laws.proofs.Changes.{broken_none}
-use Rattle.wh_laws.proofs.Reconstruction.{reconstruction_gives, same_rows_is}
-use Rattle.wh_laws.proofs.Same.{stored_same}
-use Rattle.wh_laws.proofs.Stored.{stored_ascending}
 use Rattle.wh_refresh.specs.Refresh.{checked, next_body, numbered, sized, stored_changes}
 use Rattle.wh_refresh.specs.declared.fault.RefreshFault.TheVariants as fault
 use Rattle.wh_schema.specs.declared.broken.Broken.{Broken}
 use Rattle.wh_schema.specs.declared.spec.Spec.{Spec}
 use Rattle.wh_schema.specs.Changes.{Line, apply}
 use Rattle.wh_schema.specs.Constraints.{broken}
-use Rattle.wh_schema.specs.Legality.{IsState}
 use Rattle.wh_schema.specs.Reconstruction.{reconstructed}
-use Rattle.wh_schema.specs.Warehouse.{Row, SameState, State, stored}
+use Rattle.wh_schema.specs.Warehouse.{Row, State, stored}
 use Rattle.wh_store.specs.Commit.{change_body, is_past_limit}
 use Rattle.wh_store.specs.Image.{Active, Image, changed_tables, end_behind, first_over}
-use Rattle.wh_command.specs.Refresh.{Rejection, accepted, accepted_lines, deleted_count, inserted_count, lines_in, lines_or, over_limit, refreshed_words, taken, taken_by, unless_refused}
+use Rattle.wh_command.specs.Refresh.{Rejection, accepted, accepted_lines, deleted_count, inserted_count, lines_in, over_limit, refreshed_words, taken, taken_by, unless_refused}
 use Rattle.wh_run_laws.specs.RefreshLaws.{IsAt, Point, body_after, changed_words, if_legal, judged, judged_lines, point_by, status_by, stored_deltas, within_limits, within_rows, words_by}
 use Rattle.wh_command.proofs.Legal.{after_is, broken_is, deltas_are, sources_are, stored_is, tables_are}
 use Rattle.wh_command.proofs.Passed.{lines_fit}

@@ -1,37 +1,23 @@
 -- What a load has read, and what it leaves.
-use Rattle.std.proofs.Common.{◌≡◌, ◌⊎◌, inl, inr, ℕ, zero, suc, ◌≤◌, Bool, true, false, if◌then◌else◌, List, [], ◌∷◌, ◌++◌, length, Option, None, Some, Result, Ok, Err, IfSome, refl, sym, ◌∙◌, ap, subst, arith, append-nil, append_assoc}
-use Rattle.wh_csv.specs.declared.fault.CsvFault.{CsvFault}
-use Rattle.wh_csv.specs.declared.fault.CsvFault.TheVariants as csv
-use Rattle.wh_csv.specs.Dump.{dump_of}
+use Rattle.std.proofs.Common.{◌≡◌, ◌⊎◌, inl, inr, ℕ, zero, suc, ◌≤◌, List, [], length, Option, None, Some, Result, Ok, Err, IfSome, refl, sym, ◌∙◌, ap, subst, arith, append-nil}
 use Rattle.wh_io.specs.Files.{Held}
 use Rattle.wh_io.specs.Sink.{gained}
-use Rattle.wh_plan.specs.declared.plan.PlanFault.{PlanFault}
-use Rattle.wh_plan.specs.declared.plan.PlanFault.TheVariants as plan
-use Rattle.wh_plan.specs.Plan.{too_many}
-use Rattle.wh_schema.specs.declared.broken.Broken.{Broken}
-use Rattle.wh_schema.specs.declared.spec.Relation.{Relation}
-use Rattle.wh_schema.specs.declared.spec.Spec.{Spec}
 use Rattle.wh_schema.specs.Constraints.{broken}
-use Rattle.wh_schema.specs.Warehouse.{Row, State, stored}
-use Rattle.wh_spec_text.specs.declared.fault.SpecTextFault.{SpecTextFault}
-use Rattle.wh_spec_text.specs.SpecTexts.{spec_of_text}
-use Rattle.wh_store.specs.Image.{Holding, holding, first_over}
-use Rattle.wh_store.specs.Store.{is_too_large, loaded, loaded_file}
+use Rattle.wh_schema.specs.Warehouse.{stored}
+use Rattle.wh_store.specs.Image.{Holding, holding}
+use Rattle.wh_store.specs.Store.{loaded, loaded_file}
 use Rattle.wh_command.specs.declared.show.Shown.{Shown}
 use Rattle.wh_command.specs.declared.status.Status.{Status}
 use Rattle.wh_command.specs.declared.status.Status.TheVariants as status
 use Rattle.wh_command.specs.declared.stop.Stop.{Stop}
-use Rattle.wh_command.specs.declared.stop.Stop.TheVariants.{Limit}
 use Rattle.wh_command.specs.Commands.{load, expected}
 use Rattle.wh_command.specs.Disks.{BothRest, BothLeave}
 use Rattle.wh_command.specs.Ends.{Ends, EndsWhole}
-use Rattle.wh_command.specs.Inputs.{and_then, file_of, parsed, planned, spec_in, spec_file, dump_name, dumped, dump_in, dump_file, dump_files, IsFromText, IsDumpOf, AreDumpsOf}
 use Rattle.wh_run_laws.specs.Laws.{Sources, WritesSnapshot, LoadedStands, load_words}
-use Rattle.wh_command.specs.Load.{if_unloaded, within_file, gathered_by, gathered, loading, loads, load_outcome, loaded_text, loaded_state, HoldsSnapshot}
+use Rattle.wh_command.specs.Load.{loading, loads, load_outcome, loaded_text, loaded_state, HoldsSnapshot}
 use Rattle.wh_command.specs.Outcome.{state_after, IsReached}
 use Rattle.wh_command.specs.Run.{Scene, Reports, Answers, LeavesBytes}
-use Rattle.wh_command.specs.Show.{shown, tables_within, tables_unless, tables_of}
-use Rattle.wh_command.specs.Words.{warehouse_file_words}
+use Rattle.wh_command.specs.Show.{shown}
 use Rattle.wh_laws.proofs.Changes.{broken_none}
 use Rattle.wh_command.proofs.Fitting.{load_is}
 use Rattle.wh_command.proofs.Passed.{dumps_from, load_from, spec_from}

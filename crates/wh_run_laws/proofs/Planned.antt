@@ -9,13 +9,13 @@ use Rattle.wh_store.specs.Image.{Active, Holding}
 use Rattle.wh_store.specs.Store.{loaded}
 use Rattle.wh_command.specs.declared.show.Shown.{Shown}
 use Rattle.wh_command.specs.declared.stop.Stop.{Stop}
-use Rattle.wh_command.specs.Commands.{Command, show, plan, load, refresh, query, dump, audit, report, make, expected}
-use Rattle.wh_command.specs.Load.{load_outcome, loaded_state, loaded_text, loading, loads}
-use Rattle.wh_command.specs.Make.{case_outcome, changes_outcome, made_files}
+use Rattle.wh_command.specs.Commands.{show, plan, load, refresh, query, dump, audit, report, make}
+use Rattle.wh_command.specs.Load.{loaded_state, loaded_text, loading, loads}
+use Rattle.wh_command.specs.Make.{changes_outcome, made_files}
 use Rattle.wh_command.specs.Outcome.{Outcome, Piece, followed, last_state, state_after, stays}
 use Rattle.wh_run_laws.specs.PlanLaws.{IsPlanOf, PlansAreOutcomes}
-use Rattle.wh_command.specs.Plans.{active_after, case_plan, file_steps, files_plan, load_plan, planned, text_step, texts_plan}
-use Rattle.wh_command.specs.Refresh.{accepted, file_text, opened_active, refresh_outcome, refresh_pieces, refresh_status, taken}
+use Rattle.wh_command.specs.Plans.{active_after, case_plan, file_steps, files_plan, load_plan, text_step, texts_plan}
+use Rattle.wh_command.specs.Refresh.{accepted, file_text, opened_active, refresh_outcome, refresh_pieces, taken}
 use Rattle.wh_command.specs.Report.{report_outcome}
 use Rattle.wh_command.proofs.Sound.{file_leads, still_led, texts_still}
 
