@@ -94,7 +94,11 @@ fn spec(alloc: Global) -> Result<Spec, NoMemory> {
 
 fn plan(alloc: Global) -> Result<Plan, Fail> {
     let spec = spec(alloc)?;
-    if spec.relations.len() > 64 || spec.inclusions.len() > 64 || spec.views.len() > 64 {
+    if spec.relations.len() > 64
+        || spec.inclusions.len() > 64
+        || spec.checks.len() > 64
+        || spec.views.len() > 64
+    {
         return Err(Fail::from("too many"));
     }
     match make_plan(alloc, spec) {

@@ -74,7 +74,10 @@ const FAULTS: &[Told<'_>] = &[
         b"statement 3: repeated name c",
     ),
     // A check has a condition.
-    (b"relation R(k int) key (k); check c in R;", b"byte 39: syntax"),
+    (
+        b"relation R(k int) key (k); check c in R;",
+        b"byte 39: syntax",
+    ),
 ];
 
 const REPEATED_FAULTS: &[Repeated<'_>] = &[

@@ -1,4 +1,5 @@
 use Rattle.std.proofs.Common.{◌≡◌, IfOk, List, ap, subst, ◌∙◌}
+use Rattle.wh_eval.specs.Equalities.{needs_no_scan}
 use Rattle.wh_schema.specs.Warehouse.{Row}
 use Rattle.wh_store.proofs.TextualLemmas.{textual_is_well_formed, textual_is_numbered, textual_has_keys}
 use Rattle.wh_answer.proofs.Below.{fit_over, rows_answered}
@@ -27,3 +28,15 @@ returns-clause-rows g c =
     (ap (λ s. s.tables.now) below ∙ c.new-stored.ensures.tables)
     c.in_ok-rows.ensures.rows in
     subst (λ (meant : List Row). IfOk c.sort_rows.result (λ rows. rows ≡ meant)) e c.sort_rows.ensures
+
+pub returns-in_err-rows-clause-looked_up : goal.returns-in_err-rows-clause-looked_up
+returns-in_err-rows-clause-looked_up g c =
+    let below = c.new-inverse.ensures.below in
+    let heads = ap (λ s. s.heads.now) below ∙ c.new-stored.ensures.heads ∙ c.in_ok-heads.ensures in
+    λ h. c.eval.ensures.looked_up (ap (λ hs. needs_no_scan hs c.args.q.now.expr) heads ∙ h)
+
+pub returns-clause-looked_up : goal.returns-clause-looked_up
+returns-clause-looked_up g c =
+    let below = c.new-inverse.ensures.below in
+    let heads = ap (λ s. s.heads.now) below ∙ c.new-stored.ensures.heads ∙ c.in_ok-heads.ensures in
+    λ h. c.eval.ensures.looked_up (ap (λ hs. needs_no_scan hs c.args.q.now.expr) heads ∙ h)
