@@ -1,5 +1,5 @@
 -- A command that leaves the two files alone answers what it should.
-use Rattle.std.proofs.Common.{◌≡◌, inr, ℕ, ◌+◌, ◌≤◌, Bool, true, List, Option, None, Some, refl, sym, ap, subst, arith}
+use Rattle.std.proofs.Common.{◌≡◌, inr, ℕ, Bool, true, List, Option, None, Some, refl, sym, ap, subst, arith}
 use Rattle.wh_io.specs.Causes.{IsCountedPair}
 use Rattle.wh_io.specs.Crash.{IsImage}
 use Rattle.wh_runs.specs.Answers.{Answers, ReadsWithin}
