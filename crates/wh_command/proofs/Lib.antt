@@ -26,5 +26,6 @@ pub mod Sound
 pub mod Starts
 pub mod Stores
 pub mod Texts
+pub mod Told
 pub mod Within
 pub mod Written

@@ -16,4 +16,5 @@ pub mod Run
 pub mod Show
 pub mod Steps
 pub mod Stop
+pub mod Told
 pub mod Words
