@@ -1,5 +1,5 @@
 -- How a command ended that prints one text after another, by its plan.
-use Rattle.std.proofs.Common.{◌≡◌, ℕ, zero, ◌≤◌, ◌<◌, List, [], ◌∷◌, map, length, get_or, take, Option, None, Some, Result, Ok, Err, IfSome, refl, sym, ◌∙◌, ap, subst, arith}
+use Rattle.std.proofs.Common.{◌≡◌, ℕ, zero, ◌≤◌, ◌<◌, List, [], ◌∷◌, map, length, get_or, take, Option, None, Some, Result, Ok, Err, IfSome, refl, sym, ◌∙◌, ap, subst, arith, append-nil}
 use Rattle.std.specs.Option.{option_map}
 use Rattle.std.proofs.lemmas.List.{take_all}
 use Rattle.wh_format.specs.Format.{Change}
@@ -63,6 +63,13 @@ module _ (texts : List (List ℕ)) (i : ℕ) (before middle after : Option (List
     pub told_cut : (stop : Stop) → Writes {T = Unit {0}} text middle after (Err stop) → IsToldAs (texts_plan (Ok texts)) no_read before after (Err stop)
     told_cut stop writes = as_plan (Err stop) (cut_here stop writes)
 
+-- one text
+pub one_done : (text : List ℕ) (before after : Option (List ℕ)) → after ≡ gained before text → IsToldAs (texts_plan (Ok (text ∷ []))) no_read before after (Ok status.Ok)
+one_done text before after wrote = told_done (text ∷ []) 1 before after after (wrote ∙ ap (gained before) (sym (append-nil text))) (omega arith) refl
+
+pub one_cut : (text : List ℕ) (before after : Option (List ℕ)) (stop : Stop) → Writes {T = Unit {0}} text before after (Err stop) → IsToldAs (texts_plan (Ok (text ∷ []))) no_read before after (Err stop)
+one_cut text before after stop writes = told_cut (text ∷ []) 0 before before after (sym (gained_nothing before)) text (omega arith) refl stop writes
+
 -- ---- a command that computes something, and then prints it
 
 module _ {T : Type 0} (lines : T → List (List ℕ)) (IsRead : List ℕ → Type 0) (before : Option (List ℕ)) where
@@ -75,21 +82,21 @@ module _ {T : Type 0} (lines : T → List (List ℕ)) (IsRead : List ℕ → Typ
       (subst (λ (finish : Finish Status Stop). IsToldBy [] before before (refused stop) (AtFirst IsRead) finish) (sym plain) (record { is = refl; printed = sym (gained_nothing before) }))
 
   -- a stop before anything is printed
-  pub told_stop : (wanted : Result T Stop) (stop : Stop) → BlamesFiles {T = T} (Err stop) → NamesRead {T = T} IsRead (Err stop) → Settles (Some wanted) (Err stop) → Told wanted before (Err stop)
-  told_stop wanted (ReadFault file) blames names settles = record { k = 0; within = omega arith; printed = sym (gained_nothing before); may = (refl, names) }
-  told_stop wanted NoMemory blames names settles = record { k = 0; within = omega arith; printed = sym (gained_nothing before); may = tt }
-  told_stop wanted WriteFault blames names settles = absurd (cc (blames.no_write))
-  told_stop wanted DiskFault blames names settles = absurd (cc (blames.no_store))
-  told_stop wanted NotLoaded blames names settles = absurd (cc (blames.no_store))
-  told_stop wanted AlreadyLoaded blames names settles = absurd (cc (blames.no_store))
-  told_stop wanted (Damaged words) blames names settles = absurd (cc (blames.no_store))
-  told_stop wanted (Refused words) blames names settles = refuses wanted (Refused words) settles refl
-  told_stop wanted Usage blames names settles = refuses wanted Usage settles refl
-  told_stop wanted (BadSpec words) blames names settles = refuses wanted (BadSpec words) settles refl
-  told_stop wanted (BadInput words) blames names settles = refuses wanted (BadInput words) settles refl
-  told_stop wanted (BadQuery words) blames names settles = refuses wanted (BadQuery words) settles refl
-  told_stop wanted (Limit words) blames names settles = refuses wanted (Limit words) settles refl
-  told_stop wanted (NoFile file) blames names settles = refuses wanted (NoFile file) settles refl
+  pub told_stop : (U : Type 0) (wanted : Result T Stop) (stop : Stop) → BlamesFiles {T = U} (Err stop) → NamesRead {T = U} IsRead (Err stop) → Settles (Some wanted) (Err stop) → Told wanted before (Err stop)
+  told_stop U wanted (ReadFault file) blames names settles = record { k = 0; within = omega arith; printed = sym (gained_nothing before); may = (refl, names) }
+  told_stop U wanted NoMemory blames names settles = record { k = 0; within = omega arith; printed = sym (gained_nothing before); may = tt }
+  told_stop U wanted WriteFault blames names settles = absurd (cc (blames.no_write))
+  told_stop U wanted DiskFault blames names settles = absurd (cc (blames.no_store))
+  told_stop U wanted NotLoaded blames names settles = absurd (cc (blames.no_store))
+  told_stop U wanted AlreadyLoaded blames names settles = absurd (cc (blames.no_store))
+  told_stop U wanted (Damaged words) blames names settles = absurd (cc (blames.no_store))
+  told_stop U wanted (Refused words) blames names settles = refuses wanted (Refused words) settles refl
+  told_stop U wanted Usage blames names settles = refuses wanted Usage settles refl
+  told_stop U wanted (BadSpec words) blames names settles = refuses wanted (BadSpec words) settles refl
+  told_stop U wanted (BadInput words) blames names settles = refuses wanted (BadInput words) settles refl
+  told_stop U wanted (BadQuery words) blames names settles = refuses wanted (BadQuery words) settles refl
+  told_stop U wanted (Limit words) blames names settles = refuses wanted (Limit words) settles refl
+  told_stop U wanted (NoFile file) blames names settles = refuses wanted (NoFile file) settles refl
 
   -- what was read without a fault may read more
   reads_more : (texts : List (List ℕ)) (after : Option (List ℕ)) (finish : Finish Status Stop) → IsToldBy texts before after (done status.Ok) no_read finish → IsToldBy texts before after (done status.Ok) (AtFirst IsRead) finish
@@ -108,9 +115,9 @@ module _ {T : Type 0} (lines : T → List (List ℕ)) (wanted : Held → Result 
   abbrev ToldOver : Option Held → Option (List ℕ) → Result Status Stop → Type 0
   ToldOver held after finish = IfSome held (λ (h : Held). IsToldAs (texts_plan (and_then (wanted h) (λ (x : T). Ok (lines x)))) (AtFirst (IsRead h)) before after finish)
 
-  pub over_stop : (held : Option Held) (stop : Stop) → BlamesFiles {T = T} (Err stop) → IfSome held (λ (h : Held). NamesRead {T = T} (IsRead h) (Err stop)) → Settles (option_map wanted held) (Err stop) → ToldOver held before (Err stop)
-  over_stop None stop blames names settles = tt
-  over_stop (Some h) stop blames names settles = told_stop lines (IsRead h) before (wanted h) stop blames names settles
+  pub over_stop : (U : Type 0) (held : Option Held) (stop : Stop) → BlamesFiles {T = U} (Err stop) → IfSome held (λ (h : Held). NamesRead {T = U} (IsRead h) (Err stop)) → Settles (option_map wanted held) (Err stop) → ToldOver held before (Err stop)
+  over_stop U None stop blames names settles = tt
+  over_stop U (Some h) stop blames names settles = told_stop lines (IsRead h) before U (wanted h) stop blames names settles
 
   pub over_prints : (held : Option Held) (x : T) (after : Option (List ℕ)) (finish : Result Status Stop) → Settles (option_map wanted held) (Ok x) → IsToldAs (texts_plan (Ok (lines x))) no_read before after finish → ToldOver held after finish
   over_prints None x after finish settles told = tt
