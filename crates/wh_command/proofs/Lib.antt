@@ -1,3 +1,4 @@
+pub mod Apart
 pub mod Asks
 pub mod Audits
 pub mod BySets
