@@ -104,7 +104,7 @@ no_run seen same = record {
 
 -- another command
 pub not_apart : {P : Type 0} (command other : naming.Command) → command ≡ other → is_apart (said other) ≡ false → is_apart (said command) ≡ true → P
-not_apart command other is never yes = absurd (true≢false (sym yes ∙ ap (λ (k : naming.Command). is_apart (said k)) is ∙ never))
+not_apart command other is never here = absurd (true≢false (sym here ∙ ap (λ (k : naming.Command). is_apart (said k)) is ∙ never))
 
 pub as_said : {F D : Type 0} (seen : Seen F D) (r : Result Status Stop) (command : naming.Command) (other : Command) → said command ≡ other → IsApartRun warehouse (Some other) seen (finish_by r) → IsApartRun warehouse (Some (said command)) seen (finish_by r)
 as_said seen r command other is run = subst (λ (k : Command). IsApartRun warehouse (Some k) seen (finish_by r)) (sym is) run

@@ -1,6 +1,6 @@
-use Rattle.std.proofs.Common.{◌≡◌, Bool, Option, None, Some, true, refl, sym, subst}
+use Rattle.std.proofs.Common.{None, Some, Err, refl, sym}
+use Rattle.wh_command.specs.declared.stop.Stop.TheVariants.{Usage}
 use Rattle.wh_runs.specs.Disks.{form}
-use Rattle.wh_command.specs.Commands.{Command, are_apart}
 use Rattle.wh_command.proofs.Apart.{no_run, runs_answer}
 use Rattle.wh_command.specs.Commands.{said, words_of}
 use Rattle.wh_command.proofs.Commands.{apart_crashes, named_crashes, named_finishes, named_reads, no_reads, none_finishes}
@@ -33,8 +33,8 @@ returns-in-None-clause-reads g c = no_reads g.D.Disk.content g.D.Disk.reads c.ar
 
 pub returns-in-Some-clause-apart : goal.returns-in-Some-clause-apart
 returns-in-Some-clause-apart g c =
-    runs_answer (form g.D.Disk) g.met.D.Disk.content_is_left g.met.D.Disk.only_now _ _ (Some (said c.in-Some.command)) _ c.in-Some.ensures c.perform_command.ensures.apart
+    runs_answer (form g.D.Disk) g.met.D.Disk.content_is_left g.met.D.Disk.only_now _ c.perform_command.result (Some (said c.in-Some.command)) _ c.in-Some.ensures c.perform_command.ensures.apart
 
 pub returns-in-None-clause-apart : goal.returns-in-None-clause-apart
 returns-in-None-clause-apart g c =
-    runs_answer (form g.D.Disk) g.met.D.Disk.content_is_left g.met.D.Disk.only_now _ _ None _ c.in-None.ensures (λ is. no_run _ refl)
+    runs_answer (form g.D.Disk) g.met.D.Disk.content_is_left g.met.D.Disk.only_now _ (Err Usage) None _ c.in-None.ensures (λ is. no_run _ refl)
