@@ -14,6 +14,7 @@ use Rattle.wh_laws.proofs.Changes.{broken_none}
 use Rattle.wh_laws.proofs.Stored.{length_numbers_map}
 use Rattle.wh_refresh.specs.Refresh.{stored_changes}
 use Rattle.wh_report.specs.Report.{report_text}
+use Rattle.wh_runs.proofs.Means.{led_none, take_none}
 use Rattle.wh_runs.specs.Program.{in_place, moves, Step, AreAllowed, HaveNoChange, HaveOneChange, IsAllowed, IsSound, led, step_meaning, steps_of, steps_over}
 use Rattle.wh_schema.specs.declared.spec.Spec.{Spec}
 use Rattle.wh_schema.specs.Changes.{Line, apply}
@@ -50,10 +51,7 @@ still_allowed (step ∷ steps) m none =
     subst (λ (change : Option Change). IsAllowed store_format in_place change m × AreAllowed store_format in_place steps (step_meaning store_format change m)) (sym none.0) (tt, still_allowed steps m none.1)
 
 pub still_led : (steps : List (Step Change)) (m : Holding) (k : ℕ) → HaveNoChange steps → led store_format m (take k steps) ≡ m
-still_led [] m zero none = refl
-still_led [] m (suc k) none = refl
-still_led (step ∷ steps) m zero none = refl
-still_led (step ∷ steps) m (suc k) none = ap (λ (change : Option Change). led store_format (step_meaning store_format change m) (take k steps)) none.0 ∙ still_led steps m k none.1
+still_led steps m k none = led_none store_format (take k steps) m (take_none k steps none)
 
 pub texts_still : (texts : List (List ℕ)) → HaveNoChange (map text_step texts)
 texts_still [] = tt

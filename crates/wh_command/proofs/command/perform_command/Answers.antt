@@ -1,7 +1,7 @@
 use Rattle.std.proofs.Common.{ap, refl, Some}
 use Rattle.wh_command.proofs.Apart.{as_said, not_apart, plan_run, show_run}
 use Rattle.wh_command.specs.declared.naming.Command as naming
-use Rattle.wh_command.specs.Commands.{show, plan, load, refresh, query, dump, audit, report, make, said, words_of}
+use Rattle.wh_command.specs.Commands.{show, plan, query, dump, audit, report, said, words_of}
 use Rattle.wh_command.proofs.Commands.{apart_crashes, apart_finishes, asked_crashes, asked_finishes, each_held, load_crashes, load_finishes, make_crashes, make_finishes, plan_from, refresh_crashes, refresh_finishes, show_from}
 use Rattle.wh_command.proofs.ReadNames.{names_none}
 use Rattle.wh_command.proofs.command.perform_command.Goals as goal
