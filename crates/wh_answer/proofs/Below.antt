@@ -11,7 +11,8 @@ use Rattle.wh_base.specs.Heads.{attrs_at}
 use Rattle.wh_base.specs.RowSet.{in_order, IsSetOf}
 use Rattle.wh_base.proofs.InOrder.{in_order-same}
 use Rattle.wh_expr.specs.declared.expr.Expr.{Expr}
-use Rattle.wh_expr.specs.Meaning.{meaning, tables}
+use Rattle.wh_expr.specs.Meaning.{meaning, tables, uses_only}
+use Rattle.wh_rewrite.specs.Rewritten.{MeanTheSame}
 use Rattle.wh_eval.specs.Stored.{FitHeads, first_stored, fits, rows_in, stored_rows}
 use Rattle.wh_eval.proofs.StoredLemmas.{fits_begun}
 use Rattle.wh_inverse.specs.Inverse.{inverse_rows, stored_below}
@@ -23,10 +24,11 @@ use Rattle.wh_schema.specs.declared.spec.View.{View}
 use Rattle.wh_schema.specs.Heads.{complement_head, heads_of, relation_head, view_head}
 use Rattle.wh_schema.specs.Warehouse.{Row}
 use Rattle.wh_store.specs.declared.warehouse.Warehouse.{Warehouse}
-use Rattle.wh_store.specs.Image.{stored_attrs, stored_count}
-use Rattle.wh_store.specs.Warehouse.{IsInForm, no_table, table_at}
+use Rattle.wh_store.specs.Image.{fits_stored, stored_attrs, stored_count}
+use Rattle.wh_store.specs.Warehouse.{HoldsValues, IsInForm, no_table, table_at}
 use Rattle.wh_table.specs.Table.{IndexedRows}
-use Rattle.wh_answer.specs.Answer.{rows_of, source_rows}
+use Rattle.wh_answer.specs.Answer.{is_source, rows_of, source_rows}
+use Rattle.wh_answer.proofs.WideSources.{sources_are_wide}
 
 -- ---- the indexed sets of a stored table begin with its columns alone
 
@@ -49,7 +51,7 @@ behind (x ∷ xs) ys k =
     let e : suc (length xs) + k ≡ suc (length xs + k) = omega arith in
     ap (attrs_at (x ∷ (xs ++ ys))) e ∙ behind xs ys k
 
-heads_are : (spec : Spec) → heads_of spec ≡ map relation_head spec.relations ++ (map (view_head spec) spec.views ++ map complement_head spec.relations)
+pub heads_are : (spec : Spec) → heads_of spec ≡ map relation_head spec.relations ++ (map (view_head spec) spec.views ++ map complement_head spec.relations)
 heads_are spec = append_assoc (map relation_head spec.relations) (map (view_head spec) spec.views) (map complement_head spec.relations)
 
 attrs_behind : (spec : Spec) (k : ℕ) → stored_attrs spec k ≡ attrs_at (map (view_head spec) spec.views ++ map complement_head spec.relations) k
@@ -65,7 +67,7 @@ begun spec k l =
 
 -- ---- the numbers of the tables
 
-heads_long : (spec : Spec) → length (heads_of spec) ≡ length spec.relations + stored_count spec
+pub heads_long : (spec : Spec) → length (heads_of spec) ≡ length spec.relations + stored_count spec
 heads_long spec =
     let views = map (view_head spec) spec.views in
     let complements = map complement_head spec.relations in
@@ -120,3 +122,15 @@ module _ (w : Warehouse) (form : IsInForm w) where
       in_order-same _ _ h.same
       ∙ (λ i. in_order (meaning (tables (b i) (inverse_rows (a i) (stored_rows (b i) (c i)))) e).rows)
       ∙ ap (λ (f : ℕ → List Row). in_order (meaning (tables (heads_of spec) f) e).rows) sources_are
+
+-- the same of an expression that means the same over rows which are as wide as the heads
+pub rewritten_answered : (w : Warehouse) (form : IsInForm w) (values : HoldsValues w) (known : Spec) (heads : List Head) (below : List IndexedRows) (made e : Expr) (rows : List Row) → known ≡ w.plan.spec → heads ≡ heads_of w.plan.spec → below ≡ w.tables
+    → uses_only (is_source w.plan.spec) e ≡ true → MeanTheSame (heads_of w.plan.spec) made e
+    → IsSetOf rows (meaning (tables heads (inverse_rows known (stored_rows heads below))) made).rows
+    → in_order rows ≡ in_order (meaning (tables (heads_of w.plan.spec) (source_rows w.plan.spec (rows_of w.tables))) e).rows
+rewritten_answered w form values known heads below made e rows a b c used means h =
+    let spec = w.plan.spec in
+    let fits = λ (k : ℕ) (l : k < stored_count spec).
+    ap (fits_stored spec k) (get_or-map (λ (t : IndexedRows). t.rows) w.tables k no_table [] (omega (arith, l, form.count))) ∙ values.fits k l in
+    rows_answered w form known heads below made rows a b c h
+    ∙ in_order-same _ _ (means (is_source spec) (source_rows spec (rows_of w.tables)) used (sources_are_wide spec (rows_of w.tables) fits)).rows

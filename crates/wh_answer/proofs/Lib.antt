@@ -2,4 +2,6 @@ pub mod AnswerLemmas
 pub mod Below
 pub mod QuerySources
 pub mod SameSources
+pub mod TypedQueries
 pub mod UsedMeaning
+pub mod WideSources

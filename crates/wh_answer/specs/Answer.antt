@@ -4,6 +4,7 @@ use Rattle.wh_base.specs.Columns.{names_of}
 use Rattle.wh_base.specs.Lines.{csv_text}
 use Rattle.wh_base.specs.RowSet.{in_order, SameRows}
 use Rattle.wh_expr.specs.Meaning.{meaning, tables, uses_only}
+use Rattle.wh_expr.specs.Typing.{IsWellTyped, typing}
 use Rattle.wh_laws.specs.Laws.{LegalState}
 use Rattle.wh_query_text.specs.declared.parsing.Query.{Query}
 use Rattle.wh_query_text.specs.QueryTexts.{query_of_text}
@@ -37,7 +38,12 @@ is_source spec n = nat_lt n (length spec.relations + length spec.views)
 abbrev pub IsOverSources : Spec → Query → Type 0
 IsOverSources spec q = IsTrue (uses_only (is_source spec) q.expr)
 
--- Every query that a text gives is one of these.
+-- the query breaks no rule, and has the attributes of its expression
+pub record IsTypedQuery (spec : Spec) (q : Query) : Type 0 where
+  pub typed : IsWellTyped (heads_of spec) q.expr
+  pub attrs : q.attrs ≡ (typing (heads_of spec) q.expr).attrs
+
+-- Every query that a text gives is over sources.
 abbrev pub QueriesAreOverSources : Type 0
 QueriesAreOverSources = (spec : Spec) (text : List ℕ) (q : Query) → query_of_text spec text ≡ Ok q → IsOverSources spec q
 

@@ -1,11 +1,11 @@
 // The commands `query TEXT` and `dump RELATION`: rows of a store that stays as it is.
 ghost use Rattle.std.specs.Prelude.{◌≡◌, ◌<◌, ◌≤◌, length, Some, IfOk, IfSome, false};
-ghost use Rattle.wh_answer.specs.Answer.{IsOverSources, answer_text};
+ghost use Rattle.wh_answer.specs.Answer.{IsOverSources, IsTypedQuery, answer_text};
 ghost use Rattle.wh_io.specs.Causes.{IsCounted, IsCountedPair};
 ghost use Rattle.wh_io.specs.Crash.{LeavesOnly};
 ghost use Rattle.wh_spec_text.specs.Textual.{IsTextualSpec};
 ghost use Rattle.wh_store.specs.Image.{holding};
-ghost use Rattle.wh_store.specs.Warehouse.{IsInForm, IsWarehouseOf};
+ghost use Rattle.wh_store.specs.Warehouse.{HoldsValues, IsInForm, IsWarehouseOf};
 ghost use Rattle.wh_command.specs.Ask.{EndsAsk, TellsText, answer_in, answered, dump_outcome, query_in, query_outcome, relation_in, relation_named, relation_place, relation_query};
 ghost use Rattle.wh_command.specs.Disks.{BothRest};
 ghost use Rattle.wh_command.specs.Steps.{Settles, BlamesNone, is_usage, is_read_fault, is_write_fault, is_disk_fault};
@@ -137,6 +137,7 @@ fn query_of<L: Ledger>(
     steps: &mut Steps<L>,
 ) -> Result<Bytes, Stop>
     requires form { IsInForm warehouse.now }
+    requires values { HoldsValues warehouse.now }
     ensures answer { (image : _) → IsWarehouseOf image warehouse.now → Settles (Some (answer_in image (query_in text.now image.spec))) result }
     ensures blames { BlamesNone result }
     ensures probes { steps.old.probes ≤ steps.new.probes }
@@ -153,6 +154,7 @@ fn dump_of<L: Ledger>(
     steps: &mut Steps<L>,
 ) -> Result<Bytes, Stop>
     requires form { IsInForm warehouse.now }
+    requires values { HoldsValues warehouse.now }
     ensures answer { (image : _) → IsWarehouseOf image warehouse.now → Settles (Some (answer_in image (relation_in word.now image.spec))) result }
     ensures blames { BlamesNone result }
     ensures probes { steps.old.probes ≤ steps.new.probes }
@@ -166,6 +168,7 @@ fn find_query(alloc: Global, text: &str, spec: &Spec) -> Result<Query, Stop>
     requires textual { IsTextualSpec spec.now }
     ensures answer { Settles (Some (query_in text.now spec.now)) result }
     ensures sources { IfOk result (IsOverSources spec.now) }
+    ensures typed { IfOk result (IsTypedQuery spec.now) }
     ensures blames { BlamesNone result }
 {
     match parse_query(alloc, text.as_bytes(), spec) {
@@ -180,6 +183,7 @@ fn find_relation(alloc: Global, word: &str, spec: &Spec) -> Result<Query, Stop>
     requires textual { IsTextualSpec spec.now }
     ensures answer { Settles (Some (relation_in word.now spec.now)) result }
     ensures sources { IfOk result (IsOverSources spec.now) }
+    ensures typed { IfOk result (IsTypedQuery spec.now) }
     ensures blames { BlamesNone result }
 {
     let place = named_relation(alloc, word, spec)?;
@@ -226,7 +230,9 @@ fn rows_text<L: Ledger>(
     steps: &mut Steps<L>,
 ) -> Result<Bytes, NoMemory>
     requires form { IsInForm warehouse.now }
+    requires values { HoldsValues warehouse.now }
     requires sources { IsOverSources warehouse.now.plan.spec q.now }
+    requires typed { IsTypedQuery warehouse.now.plan.spec q.now }
     ensures text { IfOk result (λ text. (image : _) → IsWarehouseOf image warehouse.now → text ≡ answer_text image.spec image.tables q.now) }
     ensures probes { steps.old.probes ≤ steps.new.probes }
     ensures scans { steps.old.scans ≤ steps.new.scans }

@@ -10,7 +10,7 @@ ghost use Rattle.wh_plan.specs.Plan.{IsPlan, too_many};
 ghost use Rattle.wh_spec_text.specs.Textual.{IsTextualSpec};
 ghost use Rattle.wh_store.specs.Image.{holding, fit_stored, first_over};
 ghost use Rattle.wh_store.specs.Store.{are_empty, loaded_file, IsEmptyOrLoaded};
-ghost use Rattle.wh_store.specs.Warehouse.{IsInForm};
+ghost use Rattle.wh_store.specs.Warehouse.{HoldsValues, IsInForm};
 ghost use Rattle.wh_command.specs.Ask.{IsNeeded, IsOpeningStop};
 ghost use Rattle.wh_command.specs.Load.{if_unloaded, IsMade, IsMakingStop};
 ghost use Rattle.wh_command.specs.RefreshSteps.{IsPlaced, IsReady};
@@ -100,6 +100,7 @@ fn making_stop(alloc: Global, fault: StoreFault) -> Stop
 pub fn open_needed<D: Disk>(alloc: Global, first: &mut D, second: &mut D) -> Result<Warehouse, Stop>
     ensures answer { IfSome (D.content first.old) (λ a. IfSome (D.content second.old) (λ b. IsNeeded (holding a b) result)) }
     ensures form { IfOk result IsInForm }
+    ensures values { IfOk result HoldsValues }
     ensures first_same { D.content first.new ≡ D.content first.old }
     ensures second_same { D.content second.new ≡ D.content second.old }
     ensures first_moments { LeavesOnly D.moment D.images_since first.old first.new (D.images first.old) }

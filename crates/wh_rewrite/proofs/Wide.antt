@@ -52,7 +52,7 @@ module _ (spec : Spec) where
   views_length : length (Relations ++ Views) ≡ length spec.relations + length spec.views
   views_length = length-append Relations Views ∙ (λ i. length-map spec.relations relation_head i + length-map spec.views (view_head spec) i)
 
-  relation_columns : (r : ℕ) → r < length spec.relations → columns_at (heads_of spec) r ≡ columns_of spec r
+  pub relation_columns : (r : ℕ) → r < length spec.relations → columns_at (heads_of spec) r ≡ columns_of spec r
   relation_columns r l =
       columns_before (Relations ++ Views) Complements r (omega (arith, l, views_length))
       ∙ columns_before Relations Views r (omega (arith, l, relations_length))
@@ -64,6 +64,11 @@ module _ (spec : Spec) where
       ∙ columns_after Relations Views n j (omega (arith, e, relations_length))
       ∙ columns_map (view_head spec) spec.views j no_view l
       ∙ names_typed _ (view_at spec j).head
+
+  pub complement_columns : (r n : ℕ) → n ≡ length spec.relations + (length spec.views + r) → r < length spec.relations → columns_at (heads_of spec) n ≡ columns_of spec r
+  complement_columns r n e l =
+      columns_after (Relations ++ Views) Complements n r (omega (arith, e, views_length))
+      ∙ columns_map complement_head spec.relations r no_relation l
 
   module _ (s : State) (state : IsState spec s) (n : ℕ) (held : is_source spec n ≡ true) (x : List Value) where
     within : n < length spec.relations + length spec.views

@@ -269,53 +269,62 @@ fn and(alloc: Global, left: Cond, right: Cond) -> Result<Cond, NoMemory> {
     Ok(Cond::And(left, Boxed::new(alloc, right)?))
 }
 
-// The rows of a number on which a condition is true.
-fn selected<B: Base, L: Ledger>(
+fn clerk_is(alloc: Global, name: &[u8]) -> Result<Cond, NoMemory> {
+    let clerk = attr(alloc, b"clerk")?;
+    Ok(equal(clerk, text(alloc, name)?))
+}
+
+// The same with the literal on the left.
+fn is_clerk(alloc: Global, name: &[u8]) -> Result<Cond, NoMemory> {
+    let name = text(alloc, name)?;
+    Ok(equal(name, attr(alloc, b"clerk")?))
+}
+
+fn item_is(alloc: Global, name: &[u8]) -> Result<Cond, NoMemory> {
+    let item = attr(alloc, b"item")?;
+    Ok(equal(item, text(alloc, name)?))
+}
+
+// Whether a condition is true of exactly these rows of a number. The listed ones ascend.
+fn is_selected<B: Base, L: Ledger>(
     alloc: Global,
     base: &B,
     n: u32,
     cond: Cond,
+    listed: &[Listed<'_>],
     steps: &mut Steps<L>,
-) -> Result<Rows, NoMemory>
+) -> Result<bool, NoMemory>
     requires { IsTrue (B.has_number base.now n) }
 {
     let named = Boxed::new(alloc, Expr::Base(n))?;
-    eval(alloc, &Expr::Select(cond, named), base, steps)
+    let found = eval(alloc, &Expr::Select(cond, named), base, steps)?;
+    let told = rows(alloc, listed)?;
+    are_sorted_to(found, &told)
 }
 
-// The rows of Mary, by a literal on the left; her TV, by two columns; and the rows of Mary that are those of John.
-fn selections<B: Base, L: Ledger>(
+// A clerk by a literal on the left, a clerk and an item, and a clerk who would be two.
+fn are_selected<B: Base, L: Ledger>(
     alloc: Global,
     base: &B,
     n: u32,
     steps: &mut Steps<L>,
-) -> Result<(Rows, Rows, Rows), NoMemory>
+) -> Result<bool, NoMemory>
     requires { IsTrue (B.has_number base.now n) }
 {
-    let mary = equal(text(alloc, b"Mary")?, attr(alloc, b"clerk")?);
-    let tv = and(
-        alloc,
-        equal(attr(alloc, b"clerk")?, text(alloc, b"Mary")?),
-        equal(attr(alloc, b"item")?, text(alloc, b"TV")?),
-    )?;
-    let both = and(
-        alloc,
-        equal(attr(alloc, b"clerk")?, text(alloc, b"Mary")?),
-        equal(attr(alloc, b"clerk")?, text(alloc, b"John")?),
-    )?;
-    Ok((
-        selected(alloc, base, n, mary, steps)?,
-        selected(alloc, base, n, tv, steps)?,
-        selected(alloc, base, n, both, steps)?,
-    ))
+    let mary = is_clerk(alloc, b"Mary")?;
+    let tv = and(alloc, clerk_is(alloc, b"Mary")?, item_is(alloc, b"TV")?)?;
+    let two = and(alloc, clerk_is(alloc, b"Mary")?, clerk_is(alloc, b"John")?)?;
+    let mary = is_selected(alloc, base, n, mary, &SOLD_ROWS[1..], steps)?;
+    let tv = is_selected(alloc, base, n, tv, &SOLD_ROWS[1..2], steps)?;
+    let two = is_selected(alloc, base, n, two, &[], steps)?;
+    Ok(mary && tv && two)
 }
 
-// What is found in the view: the rows of Mary, a row of John, and what is selected.
+// What is found in the view: the rows of Mary, and a row of John.
 #[derive(Drop)]
 struct InView {
     mary: Option<(Rows, Rows)>,
     john: Option<Row>,
-    selected: (Rows, Rows, Rows),
 }
 
 fn found_in_view<L: Ledger>(
@@ -329,7 +338,6 @@ fn found_in_view<L: Ledger>(
     Ok(InView {
         mary: rows_with(alloc, stored, SOLD, b"clerk", b"Mary", steps)?,
         john: first_with(alloc, stored, SOLD, b"clerk", b"John", steps)?,
-        selected: selections(alloc, stored, SOLD, steps)?,
     })
 }
 
@@ -351,9 +359,11 @@ fn clerks<L: Ledger>(
     Ok(found)
 }
 
-// What is found in the view, of Mary among the clerks, and of three clerks by their key.
+// What is found in the view, of Mary among the clerks, and of three clerks by their key, and whether selections of the view are
+// told.
 #[derive(Drop)]
 struct Found {
+    are_selected: bool,
     sold: InView,
     mary: Option<(Rows, Rows)>,
     clerks: Vec<Option<Row>>,
@@ -380,6 +390,7 @@ fn look_up<L: Ledger>(
     let stored = Stored::new(heads, tables);
     let inverse = Inverse::new(plan, &stored);
     Ok(Found {
+        are_selected: are_selected(alloc, &stored, SOLD, steps)?,
         sold: found_in_view(alloc, &stored, steps)?,
         mary: rows_with(alloc, &inverse, EMP, b"clerk", b"Mary", steps)?,
         clerks: clerks(alloc, &inverse, &[b"John", b"Paula", b"Zoe"], steps)?,
@@ -440,26 +451,9 @@ fn is_row(
     Ok(matches!(found, Some(Some(found)) if *found == told))
 }
 
-fn are_selected(alloc: Global, found: (Rows, Rows, Rows)) -> Result<bool, NoMemory> {
-    let (mary, tv, both) = found;
-    Ok(
-        are_sorted_to(mary, &rows(alloc, &SOLD_ROWS[1..])?)?
-            && are_sorted_to(tv, &rows(alloc, &SOLD_ROWS[1..2])?)?
-            && both.is_empty(),
-    )
-}
-
 fn is_in_view(alloc: Global, found: InView) -> Result<bool, NoMemory> {
-    let InView {
-        mary,
-        john,
-        selected,
-    } = found;
-    Ok(
-        is_row(alloc, Some(&john), &SOLD_ROWS[0])?
-            && are_rows(alloc, mary, &SOLD_ROWS[1..])?
-            && are_selected(alloc, selected)?,
-    )
+    let InView { mary, john } = found;
+    Ok(is_row(alloc, Some(&john), &SOLD_ROWS[0])? && are_rows(alloc, mary, &SOLD_ROWS[1..])?)
 }
 
 fn are_clerks(alloc: Global, found: &[Option<Row>]) -> Result<bool, NoMemory> {
@@ -471,9 +465,15 @@ fn are_clerks(alloc: Global, found: &[Option<Row>]) -> Result<bool, NoMemory> {
 }
 
 fn is_found(alloc: Global, found: Found) -> Result<bool, NoMemory> {
-    let Found { sold, mary, clerks } = found;
+    let Found {
+        are_selected,
+        sold,
+        mary,
+        clerks,
+    } = found;
     Ok(
-        is_in_view(alloc, sold)?
+        are_selected
+            && is_in_view(alloc, sold)?
             && are_rows(alloc, mary, &[(&[b"Mary"], 23)])?
             && are_clerks(alloc, &clerks)?,
     )
