@@ -3,7 +3,7 @@
 # refresh of five files make, and each of these calls is made to fail once. What is left must be the state before the change
 # that was under way or the one behind it, each change whose line was printed must be there, and the next commands must go on
 # from it to the same end. Beside that: a full disk, a limit on the size of files, a folder without permission, an output that
-# goes away, and folders in the place of files. It takes at most two minutes, is no part of the gate, and says where a tool is missing.
+# goes away or is not there, and folders and pipes in the place of files. It takes at most two minutes, is no part of the gate, and says where a tool is missing.
 # usage: checks/faults.sh [PROGRAM]
 set -eu
 cd "$(dirname "$0")/.."
@@ -163,13 +163,19 @@ same() {
     [ "$2" = "$3" ] || fail "$1: wanted '$2', came '$3'"
 }
 
+# Whether the program answers, by one of its statuses, when another user runs it.
+runs_as_other() {
+    local status=0
+    setpriv --reuid=65534 --clear-groups "$whc" "$dir/closed" report >/dev/null 2>&1 || status=$?
+    [ "$status" -eq 7 ] || [ "$status" -eq 8 ]
+}
+
 # A folder without permission, for a user who is not allowed everything.
 if [ "$(id -u)" -ne 0 ]; then
     mkdir "$dir/closed" && chmod 500 "$dir/closed"
     same "a load into a folder without permission" "7 disk fault" "$(answer load "$dir/closed")"
     same "what it left" "" "$(ls -A "$dir/closed")"
-elif setpriv --reuid=65534 --clear-groups "$whc" "$dir/none" report >/dev/null 2>&1 || [ $? -eq 8 ]; then
-    mkdir "$dir/closed" && chmod 755 "$dir" "$dir/closed"
+elif mkdir "$dir/closed" && chmod 755 "$dir" "$dir/closed" && runs_as_other; then
     same "a load into a folder without permission" "7 disk fault" "$(answer load "$dir/closed" setpriv --reuid=65534 --clear-groups)"
     same "what it left" "" "$(ls -A "$dir/closed")"
 else
@@ -182,6 +188,16 @@ same "a folder as the first file of a store" "7 disk fault" "$(answer "$whc" "$d
 same "a folder as a specification" "5 read fault: $shop" "$(answer "$whc" "$dir/new" load "$shop" "$shop/dumps")"
 same "a folder as a change file" "5 read fault: $shop" "$(answer "$whc" "$dir/loaded" refresh "$shop")"
 same "a folder that is not there" "7 disk fault" "$(answer load "$dir/none/store")"
+
+# Pipes in the place of files are told at once, whether or not somebody writes into them.
+mkdir "$dir/piped"
+mkfifo "$dir/piped/first.wh" "$dir/pipe"
+same "a pipe as the first file of a store" "7 disk fault" "$(answer timeout 5 "$whc" "$dir/piped" report)"
+same "a pipe as a change file" "5 read fault: $dir/pipe" "$(answer timeout 5 "$whc" "$dir/loaded" refresh "$dir/pipe")"
+
+# Nowhere to print to.
+closed() { "$@" >&-; }
+for command in load refresh; do try "$command with no standard output" "$command" closed; done
 
 [ "$failed" -eq 0 ] && echo "faults: $tried runs, each as it should be"
 exit "$failed"
