@@ -1,3 +1,4 @@
+pub mod Apart
 pub mod Means
 pub mod Kept
 pub mod OneRun

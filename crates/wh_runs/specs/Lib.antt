@@ -4,6 +4,7 @@ pub mod Program
 pub mod Ends
 pub mod Answers
 pub mod Opens
+pub mod Apart
 pub mod Shown
 pub mod History
 pub mod Laws

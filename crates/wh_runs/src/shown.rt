@@ -1,4 +1,5 @@
 // How what is asked of a run is shown, from what a command does. The functions have no code.
+ghost use Rattle.wh_runs.specs.Apart.{ApartAnswers};
 ghost use Rattle.wh_runs.specs.Disks.{form};
 ghost use Rattle.wh_runs.specs.Shown.{CrashesBehind, CrashesInPlace, PieceFollows, ReachedIsLed, SameIsUnwritten, UnbegunEnds, UnwrittenIsSafe, WholeIsLeft};
 
@@ -43,4 +44,9 @@ pub fn piece_follows<F, D: Disk, C: Commands>()
 /// What is left to do at the beginning is the whole.
 pub fn whole_is_left<F, D: Disk, C: Commands>()
     ensures { WholeIsLeft F (form D.Disk) C.program }
+{}
+
+/// A command that leaves the two files alone and ends in one of its ways, whatever these are, answers what it should.
+pub fn apart_answers<F, D: Disk, C: Commands>()
+    ensures { ApartAnswers F (form D.Disk) C.program }
 {}
