@@ -1,15 +1,19 @@
+pub mod Apart
 pub mod Asks
 pub mod Audits
+pub mod BySets
 pub mod Commands
 mod Constraints
 pub mod Counts
 pub mod Dumps
 pub mod Fitting
 pub mod Follow
+pub mod Legal
 pub mod Loads
 pub mod MakeRun
 pub mod Making
 pub mod Numbered
+pub mod Passed
 pub mod ReadNames
 pub mod Ready
 pub mod RefreshAll
@@ -19,8 +23,10 @@ pub mod RefreshReads
 pub mod RefreshRun
 pub mod RefreshTaken
 pub mod Shows
+pub mod Sound
 pub mod Starts
 pub mod Stores
 pub mod Texts
+pub mod Told
 pub mod Within
 pub mod Written

@@ -7,6 +7,8 @@ pub mod Load
 pub mod Make
 pub mod Outcome
 pub mod Plan
+pub mod Plans
+pub mod Profiles
 pub mod Refresh
 pub mod RefreshSteps
 pub mod Report
@@ -14,4 +16,5 @@ pub mod Run
 pub mod Show
 pub mod Steps
 pub mod Stop
+pub mod Told
 pub mod Words

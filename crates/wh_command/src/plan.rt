@@ -7,7 +7,10 @@ ghost use Rattle.wh_plan.specs.PlanText.{plan_text};
 ghost use Rattle.wh_command.specs.Outcome.{stays};
 ghost use Rattle.wh_command.specs.Ends.{Ends};
 ghost use Rattle.wh_command.specs.Plan.{plan_texts};
+ghost use Rattle.wh_command.specs.Plans.{texts_plan};
+ghost use Rattle.wh_command.specs.Profiles.{AtFirst};
 ghost use Rattle.wh_command.specs.Steps.{NamesRead, Writes, is_read_fault, is_write_fault, is_store_stop, is_usage};
+ghost use Rattle.wh_command.specs.Told.{IsToldAs};
 
 use crate::inputs::read_plan;
 use crate::status::Status;
@@ -27,6 +30,7 @@ pub fn plan<F: Files, O: Sink>(
     ensures ends { IfSome (F.held files.old) (λ held. (start : _) →
         Ends (stays start (plan_texts held spec_name.now)) (λ state. state ≡ start) (λ _ _. ⊥) (O.taken out.old) (O.taken out.new) result) }
     ensures names { NamesRead (λ file. file ≡ spec_name.now) result }
+    ensures told { IfSome (F.held files.old) (λ held. IsToldAs (texts_plan (plan_texts held spec_name.now)) (AtFirst (λ file. file ≡ spec_name.now)) (O.taken out.old) (O.taken out.new) result) }
     ensures same { F.held files.new ≡ F.held files.old }
     ensures read { IsCounted (is_read_fault result) (F.faults files.old) (F.faults files.new) }
     ensures write { IsCounted (is_write_fault result) (O.faults out.old) (O.faults out.new) }
@@ -44,6 +48,7 @@ fn show_plan<O: Sink>(alloc: Global, plan: &Plan, out: &mut O) -> Result<Status,
     requires numbered { IsNumbered plan.now.spec }
     requires plan { IsPlan plan.now }
     ensures ends { (start : _) → Ends (stays start (Ok (plan_text plan.now.spec ∷ []))) (λ state. state ≡ start) (λ _ _. ⊥) (O.taken out.old) (O.taken out.new) result }
+    ensures told { IsToldAs (texts_plan (Ok (plan_text plan.now.spec ∷ []))) (λ k file. ⊥) (O.taken out.old) (O.taken out.new) result }
     ensures read { is_read_fault result ≡ false }
     ensures store { is_store_stop result ≡ false }
     ensures usage { is_usage result ≡ false }

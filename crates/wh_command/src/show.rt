@@ -12,8 +12,11 @@ ghost use Rattle.wh_command.specs.Ends.{Ends};
 ghost use Rattle.wh_store.specs.Image.{first_over};
 ghost use Rattle.wh_command.specs.Inputs.{IsFromText, IsNextFile};
 ghost use Rattle.wh_command.specs.Load.{tables_shown};
+ghost use Rattle.wh_command.specs.Plans.{texts_plan};
+ghost use Rattle.wh_command.specs.Profiles.{AtFirst};
 ghost use Rattle.wh_command.specs.Show.{titled, table_text, table_texts, tables_of, shown_of, show_texts};
 ghost use Rattle.wh_command.specs.Steps.{Settles, NamesRead, BlamesFiles, BlamesNone, Writes, is_read_fault, is_write_fault, is_store_stop, is_usage};
+ghost use Rattle.wh_command.specs.Told.{IsToldAs};
 
 use crate::inputs::{read_dumps, read_plan};
 use crate::status::Status;
@@ -49,6 +52,7 @@ pub fn show<F: Files, O: Sink, L: Ledger>(
     ensures ends { IfSome (F.held files.old) (λ held. (start : _) →
         Ends (stays start (show_texts held spec_name.now dir.now)) (λ state. state ≡ start) (λ _ _. ⊥) (O.taken out.old) (O.taken out.new) result) }
     ensures names { IfSome (F.held files.old) (λ held. NamesRead (IsNextFile held spec_name.now dir.now) result) }
+    ensures told { IfSome (F.held files.old) (λ held. IsToldAs (texts_plan (show_texts held spec_name.now dir.now)) (AtFirst (IsNextFile held spec_name.now dir.now)) (O.taken out.old) (O.taken out.new) result) }
     ensures same { F.held files.new ≡ F.held files.old }
     ensures read { IsCounted (is_read_fault result) (F.faults files.old) (F.faults files.new) }
     ensures write { IsCounted (is_write_fault result) (O.faults out.old) (O.faults out.new) }
@@ -141,6 +145,7 @@ pub fn tables_of<L: Ledger>(
 /// Writes the text of each table, one after another.
 fn write_tables<O: Sink>(alloc: Global, shown: &Shown, out: &mut O) -> Result<Status, Stop>
     ensures ends { (start : _) → Ends (stays start (Ok (table_texts shown.now))) (λ state. state ≡ start) (λ _ _. ⊥) (O.taken out.old) (O.taken out.new) result }
+    ensures told { IsToldAs (texts_plan (Ok (table_texts shown.now))) (λ k file. ⊥) (O.taken out.old) (O.taken out.new) result }
     ensures read { is_read_fault result ≡ false }
     ensures store { is_store_stop result ≡ false }
     ensures usage { is_usage result ≡ false }

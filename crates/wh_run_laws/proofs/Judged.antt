@@ -1,58 +1,28 @@
 -- A file is accepted or refused as the sources that the store stands for judge it.
-use Rattle.std.proofs.Common.{◌≡◌, ℕ, ◌+◌, ◌-◌, ◌^◌, ◌==◌, Bool, true, false, nat_lt, if◌then◌else◌, List, [], ◌∷◌, ◌++◌, map, length, Option, None, Some, Result, Ok, Err, codes, refl, sym, ◌∙◌, ap, subst}
+use Rattle.std.proofs.Common.{◌≡◌, ℕ, ◌+◌, ◌-◌, ◌^◌, ◌==◌, Bool, true, false, if◌then◌else◌, List, ◌++◌, Option, None, Some, Result, Ok, Err, codes, refl, sym, ◌∙◌, ap, subst}
 use Rattle.std.specs.Prelude.{decimal}
 use Rattle.std.specs.List.{AllByRecursion}
 use Rattle.wh_base.specs.declared.value.Delta.{Delta}
 use Rattle.wh_check.specs.Check.{source_deltas}
-use Rattle.wh_csv.specs.declared.change.Line as csv
-use Rattle.wh_csv.specs.declared.fault.CsvFault.{CsvFault}
-use Rattle.wh_csv.specs.declared.fault.CsvFault.TheVariants as csv_fault
-use Rattle.wh_csv.specs.Change.{change_of}
 use Rattle.wh_fit.specs.Differences.{differences}
-use Rattle.wh_fit.specs.Fit.{IsFittingLine, as_line}
-use Rattle.wh_fit.proofs.LineLemmas.{changes_fit}
-use Rattle.wh_fit.proofs.StoredKinds.{stored_count_is}
+use Rattle.wh_fit.specs.Fit.{IsFittingLine}
 use Rattle.wh_io.specs.Files.{Held}
 use Rattle.wh_laws.specs.Laws.{LegalState}
 use Rattle.wh_laws.proofs.Changes.{broken_none}
-use Rattle.wh_laws.proofs.Reconstruction.{reconstruction_gives, same_rows_is}
-use Rattle.wh_laws.proofs.Same.{stored_same}
-use Rattle.wh_laws.proofs.Stored.{stored_ascending}
 use Rattle.wh_refresh.specs.Refresh.{checked, next_body, numbered, sized, stored_changes}
 use Rattle.wh_refresh.specs.declared.fault.RefreshFault.TheVariants as fault
 use Rattle.wh_schema.specs.declared.broken.Broken.{Broken}
 use Rattle.wh_schema.specs.declared.spec.Spec.{Spec}
 use Rattle.wh_schema.specs.Changes.{Line, apply}
 use Rattle.wh_schema.specs.Constraints.{broken}
-use Rattle.wh_schema.specs.Legality.{IsState}
 use Rattle.wh_schema.specs.Reconstruction.{reconstructed}
-use Rattle.wh_schema.specs.Warehouse.{Row, SameState, State, stored}
+use Rattle.wh_schema.specs.Warehouse.{Row, State, stored}
 use Rattle.wh_store.specs.Commit.{change_body, is_past_limit}
 use Rattle.wh_store.specs.Image.{Active, Image, changed_tables, end_behind, first_over}
-use Rattle.wh_command.specs.Refresh.{Rejection, accepted, accepted_lines, deleted_count, inserted_count, lines_in, lines_or, over_limit, refreshed_words, taken, taken_by, unless_refused}
+use Rattle.wh_command.specs.Refresh.{Rejection, accepted, accepted_lines, deleted_count, inserted_count, lines_in, over_limit, refreshed_words, taken, taken_by, unless_refused}
 use Rattle.wh_run_laws.specs.RefreshLaws.{IsAt, Point, body_after, changed_words, if_legal, judged, judged_lines, point_by, status_by, stored_deltas, within_limits, within_rows, words_by}
-use Rattle.wh_check.proofs.BrokenLemmas.{broken_goes_by_sets}
-use Rattle.wh_run_laws.proofs.BySets.{differences_same, given_state, lead_to, lines_same, lines_state}
-
--- ---- the lines of a file fit
-
-mapped_fit : (spec : Spec) (lines : List csv.Line) → AllByRecursion (λ l. IsFittingLine spec (as_line l)) lines → AllByRecursion (IsFittingLine spec) (map as_line lines)
-mapped_fit spec [] fits = tt
-mapped_fit spec (l ∷ lines) fits = (fits.0, mapped_fit spec lines fits.1)
-
-pub lines_fit : (spec : Spec) (found : Option (List ℕ)) (lines : List Line) → lines_in spec found ≡ Ok lines → AllByRecursion (IsFittingLine spec) lines
-lines_fit spec None lines is = absurd (cc (is))
-lines_fit spec (Some bytes) lines is = by_length (nat_lt 268435456 (length bytes)) is
-  where
-    by_change : (r : Result (List csv.Line) CsvFault) → change_of bytes spec ≡ r → lines_or r ≡ Ok lines → AllByRecursion (IsFittingLine spec) lines
-    by_change (Ok read) read_is same =
-        let same_lines : map as_line read ≡ lines = cc (same) in subst (AllByRecursion (IsFittingLine spec)) same_lines (mapped_fit spec read (changes_fit bytes spec read read_is))
-    by_change (Err (csv_fault.At at cause)) read_is same = absurd (cc (same))
-    by_change (Err csv_fault.NoMemory) read_is same = absurd (cc (same))
-
-    by_length : (longer : Bool) → (if longer then Err (over_limit (codes "file")) else lines_or (change_of bytes spec)) ≡ Ok lines → AllByRecursion (IsFittingLine spec) lines
-    by_length true same = absurd (cc (same))
-    by_length false same = by_change (change_of bytes spec) refl same
+use Rattle.wh_command.proofs.Legal.{after_is, broken_is, deltas_are, sources_are, stored_is, tables_are}
+use Rattle.wh_command.proofs.Passed.{lines_fit}
 
 -- ---- the image, and the sources that it gives back
 
@@ -88,33 +58,15 @@ module _ (spec : Spec) (p : Point) (generation : ℕ) (legal : LegalState spec p
   abbrev given : State
   given = reconstructed spec (stored spec p.sources)
 
-  given_same : SameState spec given p.sources
-  given_same = reconstruction_gives spec p.sources legal.rules legal.state legal.legal (stored spec p.sources) (λ k. same_rows_is _ _ refl)
-
-  given_is : IsState spec given
-  given_is = given_state spec (stored spec p.sources) p.sources legal.state given_same
-
   module _ (lines : List Line) (fits : AllByRecursion (IsFittingLine spec) lines) where
     abbrev after : State
     after = apply p.sources lines
 
-    after_is : IsState spec after
-    after_is = lines_state spec lines p.sources fits legal.state
-
-    after_same : SameState spec (apply given lines) after
-    after_same = lines_same spec lines given p.sources fits given_is legal.state given_same
-
-    stored_is : stored spec (apply given lines) ≡ stored spec after
-    stored_is = stored_same spec legal.rules (apply given lines) after (lines_state spec lines given fits given_is) after_is after_same
-
-    broken_is : broken spec (apply given lines) ≡ broken spec after
-    broken_is = broken_goes_by_sets spec legal.rules (apply given lines) after after_same
-
-    deltas_are : stored_changes image lines ≡ stored_deltas spec p.sources lines
-    deltas_are = ap (λ (tables : List (List Row)). differences (stored spec p.sources) tables) stored_is
+    deltas_here : stored_changes image lines ≡ stored_deltas spec p.sources lines
+    deltas_here = deltas_are spec p.sources legal lines fits
 
     body_is : next_body image lines ≡ body_after spec p lines
-    body_is = ap (λ (deltas : List Delta). change_body (p.seq + 1) deltas) deltas_are
+    body_is = ap (λ (deltas : List Delta). change_body (p.seq + 1) deltas) deltas_here
 
     by_limits : unless_refused spec lines (numbered image lines) ≡ within_limits spec p lines
     by_limits =
@@ -126,22 +78,17 @@ module _ (spec : Spec) (p : Point) (generation : ℕ) (legal : LegalState spec p
     by_rows (Some k) = refl
 
     by_broken : (first : Option Broken) → unless_refused spec lines (checked image lines first) ≡ if_legal spec p lines first
-    by_broken None = by_rows (first_over (stored spec (apply given lines))) ∙ ap (λ (tables : List (List Row)). within_rows spec p lines (first_over tables)) stored_is
+    by_broken None = by_rows (first_over (stored spec (apply given lines))) ∙ ap (λ (tables : List (List Row)). within_rows spec p lines (first_over tables)) (stored_is spec p.sources legal lines fits)
     by_broken (Some b) = refl
 
     lines_judged : accepted_lines image (Ok lines) ≡ judged_lines spec p (Ok lines)
-    lines_judged = by_broken (broken spec (apply given lines)) ∙ ap (if_legal spec p lines) broken_is
+    lines_judged = by_broken (broken spec (apply given lines)) ∙ ap (if_legal spec p lines) (broken_is spec p.sources legal lines fits)
 
-    sources_are : source_deltas image lines ≡ differences p.sources after
-    sources_are = differences_same spec given p.sources (apply given lines) after given_is legal.state given_same after_same
+    sources_here : source_deltas image lines ≡ differences p.sources after
+    sources_here = sources_are spec p.sources legal lines fits
 
     words_are : refreshed_words image lines ≡ changed_words spec p lines
-    words_are = λ i. counted_words (p.seq + 1) (sources_are i) (deltas_are i)
-
-    tables_are : changed_tables (stored spec p.sources) (stored_changes image lines) ≡ stored spec after
-    tables_are =
-        ap (changed_tables (stored spec p.sources)) deltas_are
-        ∙ lead_to (stored spec p.sources) (stored spec after) (stored_count_is spec p.sources ∙ sym (stored_count_is spec after)) (stored_ascending spec after)
+    words_are = λ i. counted_words (p.seq + 1) (sources_here i) (deltas_here i)
 
   all_judged : (found : Option (List ℕ)) (r : Result (List Line) Rejection) → lines_in spec found ≡ r → accepted_lines image r ≡ judged_lines spec p r
   all_judged found (Ok lines) is = lines_judged lines (lines_fit spec found lines is)
@@ -209,9 +156,9 @@ module _ (spec : Spec) (p : Point) (active : Active) (at : IsAt spec p active) w
       let taken_in = accepted_from spec p found lines is in
       let fits = lines_fit spec found lines taken_in.read in
       record {
-        legal = record { rules = at.legal.rules; state = after_is spec p generation at.legal lines fits; legal = (broken_none spec (apply p.sources lines)).0 taken_in.legal };
+        legal = record { rules = at.legal.rules; state = after_is spec p.sources at.legal lines fits; legal = (broken_none spec (apply p.sources lines)).0 taken_in.legal };
         spec_is = at.spec_is;
-        tables = ap (λ (j : Image). changed_tables j.tables (stored_changes j lines)) image_is ∙ tables_are spec p generation at.legal lines fits;
+        tables = ap (λ (j : Image). changed_tables j.tables (stored_changes j lines)) image_is ∙ tables_are spec p.sources at.legal lines fits;
         seq = ap (λ (n : ℕ). n + 1) at.seq;
         place = ap (λ (j : Image). end_behind j.end (next_body j lines)) image_is ∙ ap (end_behind p.end) (body_is spec p generation at.legal lines fits);
       }

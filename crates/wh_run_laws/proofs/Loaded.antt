@@ -1,67 +1,30 @@
 -- What a load has read, and what it leaves.
-use Rattle.std.proofs.Common.{◌≡◌, ◌⊎◌, inl, inr, ℕ, zero, suc, ◌≤◌, Bool, true, false, if◌then◌else◌, List, [], ◌∷◌, ◌++◌, length, Option, None, Some, Result, Ok, Err, IfSome, refl, sym, ◌∙◌, ap, subst, arith, append-nil, append_assoc}
-use Rattle.wh_csv.specs.declared.fault.CsvFault.{CsvFault}
-use Rattle.wh_csv.specs.declared.fault.CsvFault.TheVariants as csv
-use Rattle.wh_csv.specs.Dump.{dump_of}
+use Rattle.std.proofs.Common.{◌≡◌, ◌⊎◌, inl, inr, ℕ, zero, suc, ◌≤◌, List, [], length, Option, None, Some, Result, Ok, Err, IfSome, refl, sym, ◌∙◌, ap, subst, arith, append-nil}
 use Rattle.wh_io.specs.Files.{Held}
 use Rattle.wh_io.specs.Sink.{gained}
-use Rattle.wh_plan.specs.declared.plan.PlanFault.{PlanFault}
-use Rattle.wh_plan.specs.declared.plan.PlanFault.TheVariants as plan
-use Rattle.wh_plan.specs.Plan.{too_many}
-use Rattle.wh_schema.specs.declared.broken.Broken.{Broken}
-use Rattle.wh_schema.specs.declared.spec.Relation.{Relation}
-use Rattle.wh_schema.specs.declared.spec.Spec.{Spec}
 use Rattle.wh_schema.specs.Constraints.{broken}
-use Rattle.wh_schema.specs.Warehouse.{Row, State, stored}
-use Rattle.wh_spec_text.specs.declared.fault.SpecTextFault.{SpecTextFault}
-use Rattle.wh_spec_text.specs.SpecTexts.{spec_of_text}
-use Rattle.wh_store.specs.Image.{Holding, holding, first_over}
-use Rattle.wh_store.specs.Store.{is_too_large, loaded, loaded_file}
+use Rattle.wh_schema.specs.Warehouse.{stored}
+use Rattle.wh_store.specs.Image.{Holding, holding}
+use Rattle.wh_store.specs.Store.{loaded, loaded_file}
 use Rattle.wh_command.specs.declared.show.Shown.{Shown}
 use Rattle.wh_command.specs.declared.status.Status.{Status}
 use Rattle.wh_command.specs.declared.status.Status.TheVariants as status
 use Rattle.wh_command.specs.declared.stop.Stop.{Stop}
-use Rattle.wh_command.specs.declared.stop.Stop.TheVariants.{Limit}
 use Rattle.wh_command.specs.Commands.{load, expected}
 use Rattle.wh_command.specs.Disks.{BothRest, BothLeave}
 use Rattle.wh_command.specs.Ends.{Ends, EndsWhole}
-use Rattle.wh_command.specs.Inputs.{and_then, file_of, parsed, planned, spec_in, spec_file, dump_name, dumped, dump_in, dump_file, dump_files, IsFromText, IsDumpOf, AreDumpsOf}
 use Rattle.wh_run_laws.specs.Laws.{Sources, WritesSnapshot, LoadedStands, load_words}
-use Rattle.wh_command.specs.Load.{if_unloaded, within_file, gathered_by, gathered, loading, loads, load_outcome, loaded_text, loaded_state, HoldsSnapshot}
+use Rattle.wh_command.specs.Load.{loading, loads, load_outcome, loaded_text, loaded_state, HoldsSnapshot}
 use Rattle.wh_command.specs.Outcome.{state_after, IsReached}
 use Rattle.wh_command.specs.Run.{Scene, Reports, Answers, LeavesBytes}
-use Rattle.wh_command.specs.Show.{shown, tables_within, tables_unless, tables_of}
-use Rattle.wh_command.specs.Words.{warehouse_file_words}
+use Rattle.wh_command.specs.Show.{shown}
 use Rattle.wh_laws.proofs.Changes.{broken_none}
 use Rattle.wh_command.proofs.Fitting.{load_is}
+use Rattle.wh_command.proofs.Passed.{dumps_from, load_from, spec_from}
 use Rattle.wh_run_laws.proofs.Follows.{finishes_of, over_disks}
 use Rattle.wh_run_laws.proofs.Shown.{never_ok}
 
--- ---- what was passed
-
-ok_then : {T U : Type 0} (first : Result T Stop) (next : T → Result U Stop) (w : U) → and_then first next ≡ Ok w → (v : T) × (first ≡ Ok v) × (next v ≡ Ok w)
-ok_then (Ok v) next w is = (v, refl, is)
-ok_then (Err stop) next w is = absurd (cc (is))
-
-unloaded_ok : {T : Type 0} (start : Holding) (next : Result T Stop) (w : T) → if_unloaded start next ≡ Ok w → (start ≡ Ok None) × (next ≡ Ok w)
-unloaded_ok (Ok None) next w is = (refl, is)
-unloaded_ok (Ok (Some active)) next w is = absurd (cc (is))
-unloaded_ok (Err damage) next w is = absurd (cc (is))
-
-file_ok : (s w : Shown) → within_file s ≡ Ok w → s ≡ w
-file_ok s w is = by (is_too_large s.spec s.tables) is
-  where
-    by : (large : Bool) → (if large then Err (Limit warehouse_file_words) else Ok s) ≡ Ok w → s ≡ w
-    by true same = absurd (cc (same))
-    by false same = cc (same)
-
-within_ok : (spec : Spec) (s : State) (over : Option ℕ) (w : Shown) → tables_within spec s over ≡ Ok w → shown spec (stored spec s) ≡ w
-within_ok spec s None w is = cc (is)
-within_ok spec s (Some k) w is = absurd (cc (is))
-
-legal_ok : (spec : Spec) (s : State) (first : Option Broken) (w : Shown) → tables_unless spec s first ≡ Ok w → (first ≡ None) × (shown spec (stored spec s) ≡ w)
-legal_ok spec s None w is = (refl, within_ok spec s (first_over (stored spec s)) w is)
-legal_ok spec s (Some b) w is = absurd (cc (is))
+-- ---- what was loaded
 
 module _ (held : Held) (spec_name dir : List ℕ) (start : Holding) where
   -- what a load is of
@@ -73,17 +36,12 @@ module _ (held : Held) (spec_name dir : List ℕ) (start : Holding) where
 
   pub load_of : (s : Shown) → loading held spec_name dir start ≡ Ok s → IsLoadOf s
   load_of s is =
-      let ready = ok_then (gathered held spec_name dir start) within_file s is in
-      let named = ok_then (spec_file held spec_name) (λ spec. if_unloaded start (gathered_by held dir spec)) ready.0 ready.1 in
-      let spec = named.0 in
-      let open_ = unloaded_ok start (gathered_by held dir spec) ready.0 named.2 in
-      let read = ok_then (dump_files held dir [] spec.relations) (tables_of spec) ready.0 open_.1 in
-      let kept = legal_ok spec read.0 (broken spec read.0) ready.0 read.2 in
+      let from = load_from held spec_name dir start s is in
       record {
-        sources = record { spec = spec; state = read.0; spec_is = named.1; state_is = read.1 };
-        unloaded = open_.0;
-        legal = kept.0;
-        is = sym (kept.1 ∙ file_ok ready.0 s ready.2);
+        sources = record { spec = from.spec; state = from.state; spec_is = from.spec_is; state_is = from.state_is };
+        unloaded = from.unloaded;
+        legal = from.legal;
+        is = sym from.is;
       }
 
   -- what is reached
@@ -156,45 +114,6 @@ module _ (held : Held) (spec_name dir : List ℕ) (start : Holding) where
           second = made.second;
           printed = made.printed ∙ ap (λ (s : Shown). gained before.view.out (loaded_text s.tables)) is;
         }
-
--- ---- where the sources come from
-
-spec_passed : (text : List ℕ) (r : Result Spec SpecTextFault) (spec : Spec) → parsed text r ≡ Ok spec → r ≡ Ok spec
-spec_passed text (Ok s) spec is = cc (is)
-spec_passed text (Err fault) spec is = absurd (cc (is))
-
-plan_passed : (spec : Spec) (fault : Option PlanFault) (w : Spec) → planned spec fault ≡ Ok w → spec ≡ w
-plan_passed spec None w is = cc (is)
-plan_passed spec (Some (plan.TooManyPieces r count)) w is = absurd (cc (is))
-plan_passed spec (Some plan.NoMemory) w is = absurd (cc (is))
-
-pub spec_from : (held : Held) (name : List ℕ) (spec : Spec) → spec_file held name ≡ Ok spec → IsFromText spec
-spec_from held name spec is =
-    let read = ok_then (file_of (held name) name) spec_in spec is in
-    let text = read.0 in
-    let found = ok_then (parsed text (spec_of_text text)) (λ s. planned s (too_many s)) spec read.2 in
-    (text, spec_passed text (spec_of_text text) found.0 found.1 ∙ ap (λ (s : Spec). Ok s) (plan_passed found.0 (too_many found.0) spec found.2))
-
-rows_passed : (file : List ℕ) (r : Result (List Row) CsvFault) (rows : List Row) → dumped file r ≡ Ok rows → r ≡ Ok rows
-rows_passed file (Ok rs) rows is = cc (is)
-rows_passed file (Err (csv.At at cause)) rows is = absurd (cc (is))
-rows_passed file (Err csv.NoMemory) rows is = absurd (cc (is))
-
-dump_from : (held : Held) (dir : List ℕ) (r : Relation) (rows : List Row) → dump_file held dir r ≡ Ok rows → IsDumpOf r rows
-dump_from held dir r rows is =
-    let file = dump_name dir r.name in
-    let read = ok_then (file_of (held file) file) (dump_in file r.attrs) rows is in
-    (read.0, rows_passed file (dump_of read.0 r.attrs) rows read.2)
-
-dumps_behind : (held : Held) (dir : List ℕ) (relations : List Relation) (found s : State) → dump_files held dir found relations ≡ Ok s → (more : State) × (s ≡ found ++ more) × AreDumpsOf relations more
-dumps_behind held dir [] found s is = let same : found ≡ s = cc (is) in ([], sym same ∙ sym (append-nil found), tt)
-dumps_behind held dir (r ∷ rs) found s is =
-    let first = ok_then (dump_file held dir r) (λ rows. dump_files held dir (found ++ rows ∷ []) rs) s is in
-    let rest = dumps_behind held dir rs (found ++ first.0 ∷ []) s first.2 in
-    (first.0 ∷ rest.0, rest.1 ∙ append_assoc found (first.0 ∷ []) rest.0, (dump_from held dir r first.0 first.1, rest.2))
-
-pub dumps_from : (held : Held) (dir : List ℕ) (relations : List Relation) (s : State) → dump_files held dir [] relations ≡ Ok s → AreDumpsOf relations s
-dumps_from held dir relations s is = let all = dumps_behind held dir relations [] s is in subst (AreDumpsOf relations) (sym all.1) all.2
 
 -- ---- a legal state
 

@@ -2,6 +2,7 @@
 #![tactic(auto)]
 
 mod laws;
+mod program;
 
 pub use laws::{
     audit_prints_change, disk_fault_has_cause, dump_prints_relation, headline, is_exact,
@@ -10,3 +11,4 @@ pub use laws::{
     refreshes_as_judged, refusal_has_cause, refused_exactly, report_prints_state,
     show_prints_stored, show_refuses_broken, stays_apart, usage_has_cause, write_fault_has_cause,
 };
+pub use program::{histories_are_legal, plans_are_outcomes, warehouse_is_sound};

@@ -1,3 +1,4 @@
+pub mod Apart
 pub mod Means
 pub mod Kept
 pub mod OneRun
@@ -9,3 +10,5 @@ pub mod Asking
 pub mod Following
 pub mod Beside
 pub mod Begun
+pub mod Questions
+pub mod Words

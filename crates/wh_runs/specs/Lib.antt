@@ -4,6 +4,8 @@ pub mod Program
 pub mod Ends
 pub mod Answers
 pub mod Opens
+pub mod Apart
+pub mod Questions
 pub mod Shown
 pub mod History
 pub mod Laws

@@ -1,4 +1,7 @@
-use Rattle.std.proofs.Common.{sym}
+use Rattle.std.proofs.Common.{None, Some, Err, refl, sym}
+use Rattle.wh_command.specs.declared.stop.Stop.TheVariants.{Usage}
+use Rattle.wh_runs.specs.Disks.{form}
+use Rattle.wh_command.proofs.Apart.{no_run, runs_answer}
 use Rattle.wh_command.specs.Commands.{said, words_of}
 use Rattle.wh_command.proofs.Commands.{apart_crashes, named_crashes, named_finishes, named_reads, no_reads, none_finishes}
 use Rattle.wh_command.proofs.Within.{within_by}
@@ -27,3 +30,11 @@ returns-in-None-clause-crash g c =
 
 pub returns-in-None-clause-reads : goal.returns-in-None-clause-reads
 returns-in-None-clause-reads g c = no_reads g.D.Disk.content g.D.Disk.reads c.args.first.now c.args.first.now c.args.second.now c.args.second.now _ (sym c.in-None.ensures)
+
+pub returns-in-Some-clause-apart : goal.returns-in-Some-clause-apart
+returns-in-Some-clause-apart g c =
+    runs_answer (form g.D.Disk) g.met.D.Disk.content_is_left g.met.D.Disk.only_now _ c.perform_command.result (Some (said c.in-Some.command)) _ c.in-Some.ensures c.perform_command.ensures.apart
+
+pub returns-in-None-clause-apart : goal.returns-in-None-clause-apart
+returns-in-None-clause-apart g c =
+    runs_answer (form g.D.Disk) g.met.D.Disk.content_is_left g.met.D.Disk.only_now _ (Err Usage) None _ c.in-None.ensures (λ is. no_run _ refl)

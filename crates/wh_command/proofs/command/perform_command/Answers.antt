@@ -1,6 +1,7 @@
 use Rattle.std.proofs.Common.{ap, refl, Some}
+use Rattle.wh_command.proofs.Apart.{as_said, not_apart, plan_run, show_run}
 use Rattle.wh_command.specs.declared.naming.Command as naming
-use Rattle.wh_command.specs.Commands.{show, plan, load, refresh, query, dump, audit, report, make, said, words_of}
+use Rattle.wh_command.specs.Commands.{show, plan, query, dump, audit, report, said, words_of}
 use Rattle.wh_command.proofs.Commands.{apart_crashes, apart_finishes, asked_crashes, asked_finishes, each_held, load_crashes, load_finishes, make_crashes, make_finishes, plan_from, refresh_crashes, refresh_finishes, show_from}
 use Rattle.wh_command.proofs.ReadNames.{names_none}
 use Rattle.wh_command.proofs.command.perform_command.Goals as goal
@@ -86,3 +87,34 @@ pub returns-in-Make-clause-crash : goal.returns-in-Make-clause-crash
 returns-in-Make-clause-crash g c =
     make_crashes g.D.Disk.content g.D.Disk.images g.D.Disk.moment g.D.Disk.images_since c.in-Make.number c.in-Make.size c.args.first.now c.make.new.first c.args.second.now c.make.new.second _ _ _ c.make.ensures.ends _ (g.F.Files.held c.args.files.now)
     (ap (λ (k : naming.Command). Some (said k)) c.in-Make.is)
+
+pub returns-in-Show-clause-apart : goal.returns-in-Show-clause-apart
+returns-in-Show-clause-apart g c = λ is.
+    as_said _ _ c.args.command (show c.in-Show.spec.now c.in-Show.dir.now) (ap (λ (k : naming.Command). said k) c.in-Show.is)
+    (show_run _ _ refl c.show.ensures.same c.show.ensures.done c.show.ensures.read c.show.ensures.write c.show.ensures.store c.in-Show.spec.now c.in-Show.dir.now c.show.ensures.told)
+
+pub returns-in-Plan-clause-apart : goal.returns-in-Plan-clause-apart
+returns-in-Plan-clause-apart g c = λ is.
+    as_said _ _ c.args.command (plan c.in-Plan.spec.now) (ap (λ (k : naming.Command). said k) c.in-Plan.is)
+    (plan_run _ _ refl c.plan.ensures.same c.plan.ensures.done c.plan.ensures.read c.plan.ensures.write c.plan.ensures.store c.in-Plan.spec.now c.plan.ensures.told)
+
+pub returns-in-Load-clause-apart : goal.returns-in-Load-clause-apart
+returns-in-Load-clause-apart g c = not_apart c.args.command _ c.in-Load.is refl
+
+pub returns-in-Refresh-clause-apart : goal.returns-in-Refresh-clause-apart
+returns-in-Refresh-clause-apart g c = not_apart c.args.command _ c.in-Refresh.is refl
+
+pub returns-in-Query-clause-apart : goal.returns-in-Query-clause-apart
+returns-in-Query-clause-apart g c = not_apart c.args.command _ c.in-Query.is refl
+
+pub returns-in-Dump-clause-apart : goal.returns-in-Dump-clause-apart
+returns-in-Dump-clause-apart g c = not_apart c.args.command _ c.in-Dump.is refl
+
+pub returns-in-Audit-clause-apart : goal.returns-in-Audit-clause-apart
+returns-in-Audit-clause-apart g c = not_apart c.args.command _ c.in-Audit.is refl
+
+pub returns-in-Report-clause-apart : goal.returns-in-Report-clause-apart
+returns-in-Report-clause-apart g c = not_apart c.args.command _ c.in-Report.is refl
+
+pub returns-in-Make-clause-apart : goal.returns-in-Make-clause-apart
+returns-in-Make-clause-apart g c = not_apart c.args.command _ c.in-Make.is refl

@@ -1,8 +1,8 @@
 -- What changes make of two states with the same rows is the same.
-use Rattle.std.proofs.Common.{◌≡◌, ℕ, ◌+◌, ◌<◌, Bool, true, false, not, ◌&&◌, ◌||◌, nat_eq, if◌then◌else◌, List, [], ◌∷◌, ◌++◌, map, fold, length, get_or, replicate, Option, None, Contains, refl, sym, ◌∙◌, ap, subst, inl, inr, arith}
+use Rattle.std.proofs.Common.{◌≡◌, ℕ, ◌<◌, Bool, true, false, not, ◌&&◌, ◌||◌, nat_eq, if◌then◌else◌, List, [], ◌∷◌, ◌++◌, map, fold, length, get_or, replicate, Contains, refl, sym, ◌∙◌, ap, subst, arith}
 use Rattle.std.specs.List.{AllByRecursion}
 use Rattle.std.proofs.lemmas.Bool.{and_parts, eqb-true}
-use Rattle.std.proofs.lemmas.List.{length-map, length-replicate, length-set, map-append}
+use Rattle.std.proofs.lemmas.List.{length-map, length-replicate, length-set}
 use Rattle.std.proofs.lemmas.List.Elements.{Contains-get_or}
 use Rattle.std.proofs.lemmas.List.FromFn.{fill_by_all}
 use Rattle.wh_base.specs.declared.value.Delta.{Delta}
@@ -11,19 +11,18 @@ use Rattle.wh_base.specs.RowSet.{IsAscending, SameRows, has, in_order}
 use Rattle.wh_base.specs.Tables.{without}
 use Rattle.wh_base.specs.Value.{row_eq}
 use Rattle.wh_base.specs.ValueLaws.{row_eq-Decides}
-use Rattle.wh_base.proofs.InOrder.{SameMembers-from, SameRows-in_order, in_order-members, in_order-same, in_order-unique}
+use Rattle.wh_base.proofs.InOrder.{SameRows-in_order, in_order-same, in_order-unique}
 use Rattle.wh_base.proofs.RowSets.{has-append, has-filter}
 use Rattle.wh_fit.specs.Differences.{difference, differences}
 use Rattle.wh_fit.specs.Fit.{IsFittingLine}
 use Rattle.wh_fit.proofs.KindLemmas.{fits_from, width_is}
 use Rattle.wh_laws.proofs.Lines.{line_changes}
-use Rattle.wh_laws.proofs.Lists.{Contains-here, Contains-is, map_map, map_same}
+use Rattle.wh_laws.proofs.Lists.{Contains-here, map_same}
 use Rattle.wh_laws.proofs.Pieces.{numbers_from}
-use Rattle.wh_laws.proofs.Reconstruction.{same_rows_sym}
-use Rattle.wh_laws.proofs.Stored.{length_numbers_map, numbers_map_at}
+use Rattle.wh_laws.proofs.Stored.{numbers_map_at}
 use Rattle.wh_schema.specs.declared.spec.Spec.{Spec}
 use Rattle.wh_schema.specs.Changes.{Line, apply, apply_line}
-use Rattle.wh_schema.specs.Legality.{IsState, WellFormed}
+use Rattle.wh_schema.specs.Legality.{IsState}
 use Rattle.wh_schema.specs.Reconstruction.{order, reconstruct_next, reconstructed, reconstructed_rows}
 use Rattle.wh_schema.specs.Warehouse.{Row, SameState, State, columns_of, numbers, relation_at}
 use Rattle.wh_store.specs.Image.{changed_table, changed_tables, no_delta}
