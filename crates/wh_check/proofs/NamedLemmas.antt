@@ -1,7 +1,6 @@
 -- What lines do to a relation is told by its rows that they name.
-use Rattle.std.proofs.Common.{◌≡◌, ℕ, ◌+◌, ◌<◌, Bool, true, false, not, cond, ◌&&◌, ◌||◌, nat_eq, List, [], ◌∷◌, ◌++◌, map, filter, fold, take, set, length, get_or, refl, sym, ap, ◌∙◌, absurd, true≢false, arith}
-use Rattle.std.proofs.lemmas.List.{get_or-set_same, length-set, map-append}
-use Rattle.std.proofs.lemmas.List.Elements.{filter_more}
+use Rattle.std.proofs.Common.{◌≡◌, ℕ, ◌<◌, Bool, true, false, not, cond, ◌&&◌, ◌||◌, nat_eq, List, [], ◌∷◌, map, filter, fold, set, length, get_or, refl, sym, ap, ◌∙◌, absurd, true≢false, arith}
+use Rattle.std.proofs.lemmas.List.{get_or-set_same, length-set}
 use Rattle.wh_base.specs.declared.value.Delta.{Delta}
 use Rattle.wh_base.specs.Columns.{cut, picked, place_of}
 use Rattle.wh_base.specs.RowSet.{SameRows, first_seen, has}
@@ -113,14 +112,6 @@ delta_found i lines held meant s d l is same made =
     let m : i < length t = omega (arith, l, length-set s i held) in
     made t m (same_rows_is _ _ (sym at))
     ∙ named_difference i lines s t l m (λ q. ap (λ (z : List Row). has z q) at ∙ held_named i lines held meant (get_or s i []) is same q)
-
--- one line more
-pub named_more : (i : ℕ) (lines : List csv.Line) (k : ℕ) (line : csv.Line) → k < length lines
-    → rows_named i (take (k + 1) lines) ≡ rows_named i (take k lines) ++ map (λ (l : csv.Line). l.row) (cond (nat_eq i (get_or lines k line).relation) (get_or lines k line ∷ []) [])
-named_more i lines k line l =
-    let here = cond (nat_eq i (get_or lines k line).relation) (get_or lines k line ∷ []) [] in
-    ap (map (λ (x : csv.Line). x.row)) (filter_more (λ (x : csv.Line). nat_eq i x.relation) lines k line l)
-    ∙ map-append (λ (x : csv.Line). x.row) (filter (λ (x : csv.Line). nat_eq i x.relation) (take k lines)) here
 
 -- a row is held where it is among those with its values at all columns
 pub held_by_values : (names columns : List (List ℕ)) (places : List ℕ) (row values : Row) (meant found : List Row) → names ≡ columns → places ≡ map (place_of names) names → values ≡ picked places row

@@ -1,10 +1,15 @@
-use Rattle.std.proofs.Common.{◌≡◌, true, ◌&&◌, map, sym, ap, ◌∙◌}
-use Rattle.wh_base.specs.Columns.{cut, place_of, picked}
+use Rattle.std.proofs.Common.{ap, ◌∙◌}
+use Rattle.wh_base.specs.Columns.{all_in}
 use Rattle.wh_base.specs.Heads.{columns_at}
 use Rattle.wh_base.specs.RowSet.{has}
-use Rattle.wh_base.specs.Value.{row_eq}
+use Rattle.wh_inverse.proofs.Tests.{all_in-from}
 use Rattle.wh_check.proofs.NamedLemmas.{held_by_values}
 use Rattle.wh_check.proofs.named.is_held.Goals as goal
+
+pub rows_where-requires-clause-columns : goal.rows_where-requires-clause-columns
+rows_where-requires-clause-columns g c =
+    let columns = columns_at (g.B.Base.heads_of c.args.base.now) c.args.n in
+    ap (all_in columns) c.requires.columns ∙ all_in-from columns columns (λ name h. h)
 
 pub returns-clause-held : goal.returns-clause-held
 returns-clause-held g c =

@@ -1,4 +1,4 @@
-use Rattle.std.proofs.Common.{◌≡◌, ◌<◌, ℕ, map, length, sym, ap, ◌∙◌, arith}
+use Rattle.std.proofs.Common.{map, length, sym, ap, ◌∙◌, arith}
 use Rattle.std.proofs.lemmas.Result.{IfOk-weaker}
 use Rattle.wh_answer.proofs.Below.{fit_over}
 use Rattle.wh_fit.specs.Differences.{differences}
