@@ -1,5 +1,5 @@
 -- The sources that the tables of a warehouse give back.
-use Rattle.std.proofs.Common.{◌≡◌, ℕ, zero, suc, ◌<◌, ◌==◌, true, List, [], ◌∷◌, ◌++◌, ◌+◌, map, length, get_or, Contains, Result, Ok, Err, IfOk, refl, sym, ap, subst, absurd, ◌∙◌, arith}
+use Rattle.std.proofs.Common.{◌≡◌, ℕ, zero, suc, ◌<◌, ◌==◌, true, List, [], ◌∷◌, ◌++◌, ◌+◌, map, length, get_or, Contains, Result, Ok, Err, IfOk, refl, sym, ap, subst, ◌∙◌, arith}
 use Rattle.std.proofs.lemmas.Bool.{and_parts, eqb-true}
 use Rattle.std.proofs.lemmas.List.{get_or-map}
 use Rattle.wh_answer.specs.Answer.{rows_of}

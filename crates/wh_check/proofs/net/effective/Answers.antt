@@ -22,8 +22,8 @@ new-inverse-requires-clause-keys g c = textual_has_keys c.args.w.now.plan.spec c
 pub new-inverse-requires-clause-numbered : goal.new-inverse-requires-clause-numbered
 new-inverse-requires-clause-numbered g c = textual_is_numbered c.args.w.now.plan.spec c.requires.form.textual
 
-pub relation_count-requires : goal.relation_count-requires
-relation_count-requires g c = textual_is_numbered c.args.w.now.plan.spec c.requires.form.textual
+pub relation_count-count-requires : goal.relation_count-count-requires
+relation_count-count-requires g c = textual_is_numbered c.args.w.now.plan.spec c.requires.form.textual
 
 pub deltas_of-requires-clause-held : goal.deltas_of-requires-clause-held
 deltas_of-requires-clause-held g c = λ n l. is_number c.args.w.now c.requires.form _ (ap (λ p. p.spec) c.new-inverse.ensures.plan) n (omega (arith, l, c.relation_count-count.ensures))
