@@ -1,5 +1,5 @@
 -- The sources that the tables of a warehouse give back.
-use Rattle.std.proofs.Common.{◌≡◌, ℕ, zero, suc, ◌<◌, ◌==◌, true, List, [], ◌∷◌, ◌++◌, map, length, get_or, Result, Ok, Err, IfOk, refl, sym, ap, subst, ◌∙◌, arith}
+use Rattle.std.proofs.Common.{◌≡◌, ℕ, zero, suc, ◌<◌, ◌==◌, true, List, [], ◌∷◌, ◌++◌, ◌+◌, map, length, get_or, Contains, Result, Ok, Err, IfOk, refl, sym, ap, subst, ◌∙◌, arith}
 use Rattle.std.proofs.lemmas.Bool.{and_parts, eqb-true}
 use Rattle.std.proofs.lemmas.List.{get_or-map}
 use Rattle.wh_answer.specs.Answer.{rows_of}
@@ -7,13 +7,20 @@ use Rattle.wh_answer.proofs.Below.{below_is}
 use Rattle.wh_answer.proofs.SameSources.{reconstructed_same}
 use Rattle.wh_base.specs.declared.head.Head.{Head}
 use Rattle.wh_base.specs.declared.value.Delta.{Delta}
+use Rattle.wh_base.specs.Heads.{columns_at}
 use Rattle.wh_base.specs.RowSet.{AreDistinct, SameRows, first_seen}
 use Rattle.wh_base.specs.Tables.{without}
 use Rattle.wh_base.proofs.FirstRows.{IsSetOf-first_seen}
 use Rattle.wh_base.proofs.InOrder.{SameRows-in_order}
 use Rattle.wh_base.proofs.RowSets.{SameRows-append, SameRows-filter}
 use Rattle.wh_eval.specs.Stored.{stored_rows}
-use Rattle.wh_inverse.specs.Inverse.{stored_below}
+use Rattle.wh_expr.specs.Typing.{are_distinct}
+use Rattle.wh_inverse.specs.Inverse.{inverse_rows, is_source, stored_below}
+use Rattle.wh_inverse.proofs.BelowLemmas.{relation-columns}
+use Rattle.wh_inverse.proofs.Beside.{distinct-test}
+use Rattle.wh_inverse.proofs.GivenLemmas.{given-relation}
+use Rattle.wh_inverse.proofs.Tests.{lt-test}
+use Rattle.wh_laws.proofs.Lists.{Contains-nil}
 use Rattle.wh_laws.proofs.Reconstruction.{same_rows_is, same_rows_sym, same_rows_trans}
 use Rattle.wh_laws.proofs.Stored.{length_numbers_map, numbers_map_at}
 use Rattle.wh_load.specs.Load.{HasDistinctRows}
@@ -23,7 +30,7 @@ use Rattle.wh_schema.specs.Constraints.{broken}
 use Rattle.wh_schema.specs.Heads.{heads_of}
 use Rattle.wh_schema.specs.Legality.{WellFormed}
 use Rattle.wh_schema.specs.Reconstruction.{SameTables, reconstructed}
-use Rattle.wh_schema.specs.Warehouse.{Row, SameState, State, numbers}
+use Rattle.wh_schema.specs.Warehouse.{Row, SameState, State, columns_of, numbers}
 use Rattle.wh_store.specs.declared.warehouse.Warehouse.{Warehouse}
 use Rattle.wh_store.specs.Image.{Image, apply_to, changed_table, no_delta, stored_count}
 use Rattle.wh_store.specs.Warehouse.{IsInForm, IsWarehouseOf, no_table}
@@ -51,6 +58,35 @@ module _ (w : Warehouse) (form : IsInForm w) where
       let three = subst (λ (ts : List IndexedRows). SameState spec s (reconstructed spec (stored_below spec (stored_rows (heads_of spec) ts)))) c two in
       subst (λ (ts : List (List Row)). SameState spec s (reconstructed spec ts)) (below_is w form) three
 
+some_of : {X : Type 0} (xs : List X) (x : X) → Contains xs x → 0 < length xs
+some_of [] x h = absurd (Contains-nil x h)
+some_of (y ∷ xs) x h = omega arith
+
+-- what the relations over these tables are asked
+module _ (w : Warehouse) (form : IsInForm w) where
+  pub is_number : (known : Spec) → known ≡ w.plan.spec → (n : ℕ) → n < length w.plan.spec.relations → is_source known n ≡ true
+  is_number known e n l = let same = ap (λ (sp : Spec). length sp.relations) e in lt-test n (length known.relations + length known.views) (omega (arith, l, same))
+
+  columns_are : (heads : List Head) → heads ≡ heads_of w.plan.spec → (n : ℕ) → n < length w.plan.spec.relations → columns_at heads n ≡ columns_of w.plan.spec n
+  columns_are heads e n l = ap (λ (hs : List Head). columns_at hs n) e ∙ relation-columns w.plan.spec n l
+
+  pub some_column : (heads : List Head) → heads ≡ heads_of w.plan.spec → (n : ℕ) → n < length w.plan.spec.relations → 0 < length (columns_at heads n)
+  some_column heads e n l =
+      let a = (textual_is_well_formed w.plan.spec form.textual).some_attribute n l in
+      subst (λ (names : List (List ℕ)). 0 < length names) (sym (columns_are heads e n l)) (some_of (columns_of w.plan.spec n) a.0 a.1)
+
+  pub distinct_columns : (heads : List Head) → heads ≡ heads_of w.plan.spec → (n : ℕ) → n < length w.plan.spec.relations → are_distinct (columns_at heads n) ≡ true
+  distinct_columns heads e n l =
+      ap are_distinct (columns_are heads e n l) ∙ distinct-test (columns_of w.plan.spec n) ((textual_is_well_formed w.plan.spec form.textual).distinct n l)
+
+  -- the rows of a relation over the tables as they are below
+  pub relation_given : (known : Spec) (heads : List Head) (below : List IndexedRows) → known ≡ w.plan.spec → heads ≡ heads_of w.plan.spec → below ≡ w.tables → (n : ℕ) → n < length w.plan.spec.relations
+      → inverse_rows known (stored_rows heads below) n ≡ get_or (reconstructed w.plan.spec (rows_of w.tables)) n []
+  relation_given known heads below a b c n l =
+      (λ j. inverse_rows (a j) (stored_rows (b j) (c j)) n)
+      ∙ sym (given-relation w.plan.spec (stored_rows (heads_of w.plan.spec) w.tables) n l)
+      ∙ ap (λ (ts : List (List Row)). get_or (reconstructed w.plan.spec ts) n []) (below_is w form)
+
 module _ (w : Warehouse) (i : Image) (k : IsWarehouseOf i w) where
   held_same : SameTables (reconstructed w.plan.spec (rows_of w.tables)) (held_sources i)
   held_same =
@@ -65,6 +101,11 @@ module _ (w : Warehouse) (i : Image) (k : IsWarehouseOf i w) where
   pub held_rows : (s : State) → length s ≡ length w.plan.spec.relations → SameState w.plan.spec s (reconstructed w.plan.spec (rows_of w.tables))
       → (n : ℕ) → n < length s → SameRows (get_or s n []) (get_or (held_sources i) n [])
   held_rows s count h n l = same_rows_trans _ _ _ (h n (omega (arith, l, count))) (held_same n)
+
+  -- the same rows as they are below
+  pub rows_given : (known : Spec) (heads : List Head) (below : List IndexedRows) → known ≡ w.plan.spec → heads ≡ heads_of w.plan.spec → below ≡ w.tables → (n : ℕ) → n < length w.plan.spec.relations
+      → SameRows (inverse_rows known (stored_rows heads below) n) (get_or (held_sources i) n [])
+  rows_given known heads below a b c n l = same_rows_trans _ _ _ (same_rows_is _ _ (relation_given w k.form known heads below a b c n l)) (held_same n)
 
 -- the image that the tables of a warehouse are of
 pub image_of : Warehouse → Image

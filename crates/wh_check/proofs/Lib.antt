@@ -1,3 +1,4 @@
 pub mod BrokenLemmas
 pub mod HeldLemmas
+pub mod NamedLemmas
 pub mod NetLemmas

@@ -91,7 +91,7 @@ line_told i q line rows lines k old new l is before here =
     ∙ ap (said i q (fold (said i q) (has rows q) (take k lines))) is
     ∙ sym (fold-more (said i q) (has rows q) lines k line l)
 
-fold_mapped : {X Y B : Type 0} (f : B → Y → B) (g : X → Y) (b : B) (xs : List X) → fold f b (map g xs) ≡ fold (λ c x. f c (g x)) b xs
+pub fold_mapped : {X Y B : Type 0} (f : B → Y → B) (g : X → Y) (b : B) (xs : List X) → fold f b (map g xs) ≡ fold (λ c x. f c (g x)) b xs
 fold_mapped f g b [] = refl
 fold_mapped f g b (x ∷ xs) = fold_mapped f g (f b (g x)) xs
 

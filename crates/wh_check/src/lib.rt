@@ -3,6 +3,7 @@
 
 mod broken;
 mod laws;
+mod named;
 mod net;
 mod sources;
 

@@ -16,7 +16,7 @@ use wh_steps::{Ledger, Steps};
 use wh_store::Warehouse;
 
 /// The sources that the stored tables give back, each row once.
-pub(crate) fn held_sources<L: Ledger>(
+fn held_sources<L: Ledger>(
     alloc: Global,
     w: &Warehouse,
     steps: &mut Steps<L>,
@@ -34,7 +34,7 @@ pub(crate) fn held_sources<L: Ledger>(
 }
 
 /// The rows of a relation.
-pub(crate) fn rows_at(s: &State, relation: usize) -> &Rows
+fn rows_at(s: &State, relation: usize) -> &Rows
     requires { relation < length s.now }
     ensures { result.now ≡ get_or s.now relation [] }
 {
