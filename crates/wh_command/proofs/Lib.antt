@@ -14,6 +14,7 @@ pub mod MakeRun
 pub mod Making
 pub mod Numbered
 pub mod Passed
+pub mod Questions
 pub mod ReadNames
 pub mod Ready
 pub mod RefreshAll

@@ -10,3 +10,5 @@ pub mod Asking
 pub mod Following
 pub mod Beside
 pub mod Begun
+pub mod Questions
+pub mod Words

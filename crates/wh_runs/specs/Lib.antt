@@ -5,6 +5,7 @@ pub mod Ends
 pub mod Answers
 pub mod Opens
 pub mod Apart
+pub mod Questions
 pub mod Shown
 pub mod History
 pub mod Laws

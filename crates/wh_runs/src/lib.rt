@@ -37,6 +37,6 @@ pub use rows::{
     silent_change_is_refused,
 };
 pub use shown::{
-    apart_answers, crashes_behind, crashes_in_place, piece_follows, reached_is_led,
+    apart_answers, asking_answers, crashes_behind, crashes_in_place, piece_follows, reached_is_led,
     same_is_unwritten, unbegun_ends, unwritten_is_safe, whole_is_left,
 };

@@ -1,6 +1,7 @@
 // How what is asked of a run is shown, from what a command does. The functions have no code.
 ghost use Rattle.wh_runs.specs.Apart.{ApartAnswers};
 ghost use Rattle.wh_runs.specs.Disks.{form};
+ghost use Rattle.wh_runs.specs.Questions.{AskingAnswers};
 ghost use Rattle.wh_runs.specs.Shown.{CrashesBehind, CrashesInPlace, PieceFollows, ReachedIsLed, SameIsUnwritten, UnbegunEnds, UnwrittenIsSafe, WholeIsLeft};
 
 use crate::program::Commands;
@@ -49,4 +50,9 @@ pub fn whole_is_left<F, D: Disk, C: Commands>()
 /// A command that leaves the two files alone and ends in one of its ways, whatever these are, answers what it should.
 pub fn apart_answers<F, D: Disk, C: Commands>()
     ensures { ApartAnswers F (form D.Disk) C.program }
+{}
+
+/// A command that only asks, settles both files before its first text and writes neither, answers what it should.
+pub fn asking_answers<F, D: Disk, C: Commands>()
+    ensures { AskingAnswers F (form D.Disk) C.program }
 {}
