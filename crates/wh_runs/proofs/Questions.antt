@@ -66,8 +66,8 @@ module _ {F D : Type 0} (form : Form D) (is_left : (d : D) → IsImage (form.con
     ends_by disk_fault asked = stopped disk_fault asked tt
 
   known : (apart : Bool) (start : Contents) → apart ≡ false → IsKnown apart form before start → Tells form before start
-  known true start is known = absurd (true≢false is)
-  known false start is known = known
+  known true start is told = absurd (true≢false is)
+  known false start is told = told
 
   pub asking_answers : Answers form program command seen finish
   asking_answers = record {
