@@ -1,4 +1,5 @@
 pub mod Apart
+pub mod Asking
 pub mod Asks
 pub mod Audits
 pub mod BySets

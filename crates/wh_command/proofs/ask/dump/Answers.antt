@@ -1,7 +1,7 @@
 use Rattle.wh_command.specs.Ask.{answered, relation_in}
 use Rattle.wh_command.proofs.Asks.{asks_stop, asks_tell}
 use Rattle.wh_runs.specs.Disks.{both, form}
-use Rattle.wh_command.proofs.Questions.{asking_stops, asking_tells, no_names}
+use Rattle.wh_command.proofs.Asking.{asking_stops, asking_tells, no_names}
 use Rattle.wh_command.proofs.ask.dump.Goals as goal
 
 pub returns-in-Ok-clause-ends : goal.returns-in-Ok-clause-ends

@@ -2,7 +2,7 @@ use Rattle.wh_command.proofs.Audits.{held_asks_stop, held_asks_tell, stop_reads}
 use Rattle.wh_runs.specs.Disks.{both, form}
 use Rattle.wh_command.specs.Profiles.{AtFirst}
 use Rattle.wh_command.specs.Report.{IsReadByAudit, audited}
-use Rattle.wh_command.proofs.Questions.{first_names, held_stops, held_tells}
+use Rattle.wh_command.proofs.Asking.{first_names, held_stops, held_tells}
 use Rattle.wh_command.proofs.audit.audit.Goals as goal
 
 pub returns-in-Ok-clause-ends : goal.returns-in-Ok-clause-ends

@@ -1,5 +1,5 @@
 use Rattle.wh_runs.specs.Disks.{both, form}
-use Rattle.wh_command.proofs.Questions.{both_unwritten}
+use Rattle.wh_command.proofs.Asking.{both_unwritten}
 use Rattle.wh_command.proofs.store.open_needed.Goals as goal
 
 pub returns-in-Ok-clause-unwritten : goal.returns-in-Ok-clause-unwritten
