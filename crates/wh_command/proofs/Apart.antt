@@ -1,5 +1,5 @@
 -- Commands that leave the two files alone, as runs of the program.
-use Rattle.std.proofs.Common.{◌≡◌, ℕ, Bool, true, false, true≢false, List, [], Option, None, Some, IfOk, IfSome, Result, Ok, Err, refl, sym, ◌∙◌, ap, subst}
+use Rattle.std.proofs.Common.{◌≡◌, ℕ, Bool, true, false, true≢false, List, Option, None, Some, IfOk, IfSome, Result, Ok, Err, refl, sym, ◌∙◌, ap, subst}
 use Rattle.wh_io.specs.Causes.{IsCounted}
 use Rattle.wh_io.specs.Files.{Held}
 use Rattle.wh_io.proofs.Gained.{gained_nothing}
@@ -18,7 +18,7 @@ use Rattle.wh_command.specs.declared.stop.Stop.TheVariants.{Refused, Usage, BadS
 use Rattle.wh_command.specs.Commands.{Command, show, plan, load, refresh, query, dump, audit, report, make, are_apart, said}
 use Rattle.wh_command.specs.Inputs.{IsNextFile}
 use Rattle.wh_command.specs.Plan.{plan_texts}
-use Rattle.wh_command.specs.Plans.{CommandPlan, texts_plan}
+use Rattle.wh_command.specs.Plans.{texts_plan}
 use Rattle.wh_command.specs.Profiles.{AtFirst, profile, warehouse}
 use Rattle.wh_command.specs.Show.{show_texts}
 use Rattle.wh_command.specs.Steps.{is_disk_fault, is_read_fault, is_write_fault, is_store_stop}
