@@ -1,5 +1,5 @@
 -- Commands that leave the two files alone, as runs of the program.
-use Rattle.std.proofs.Common.{◌≡◌, ℕ, Bool, true, false, true≢false, List, [], Option, None, Some, IfOk, IfSome, Result, Ok, Err, refl, sym, ◌∙◌, ap, subst}
+use Rattle.std.proofs.Common.{◌≡◌, ℕ, Bool, true, false, true≢false, List, Option, None, Some, IfOk, IfSome, Result, Ok, Err, refl, sym, ◌∙◌, ap, subst}
 use Rattle.wh_io.specs.Causes.{IsCounted}
 use Rattle.wh_io.specs.Files.{Held}
 use Rattle.wh_io.proofs.Gained.{gained_nothing}
@@ -15,44 +15,45 @@ use Rattle.wh_command.specs.declared.status.Status.{Status}
 use Rattle.wh_command.specs.declared.status.Status.TheVariants as status
 use Rattle.wh_command.specs.declared.stop.Stop.{Stop}
 use Rattle.wh_command.specs.declared.stop.Stop.TheVariants.{Refused, Usage, BadSpec, BadInput, BadQuery, ReadFault, WriteFault, DiskFault, NotLoaded, AlreadyLoaded, Damaged, Limit, NoMemory, NoFile}
-use Rattle.wh_command.specs.Commands.{Command, show, plan, load, refresh, query, dump, audit, report, make, are_apart, is_apart, said}
+use Rattle.wh_command.specs.Commands.{Command, show, plan, load, refresh, query, dump, audit, report, make, are_apart, said}
 use Rattle.wh_command.specs.Inputs.{IsNextFile}
 use Rattle.wh_command.specs.Plan.{plan_texts}
-use Rattle.wh_command.specs.Plans.{CommandPlan, texts_plan}
+use Rattle.wh_command.specs.Plans.{texts_plan}
 use Rattle.wh_command.specs.Profiles.{AtFirst, profile, warehouse}
 use Rattle.wh_command.specs.Show.{show_texts}
-use Rattle.wh_command.specs.Steps.{is_read_fault, is_write_fault, is_store_stop}
+use Rattle.wh_command.specs.Steps.{is_disk_fault, is_read_fault, is_write_fault, is_store_stop}
 use Rattle.wh_command.specs.Told.{IsToldAs, finish_by}
 
 -- ---- what was answered, as the finish of a run
 
-record IsMatched (r : Result Status Stop) : Type 0 where
-  read : runs.is_read_fault (finish_by r) ≡ is_read_fault r
-  write : runs.is_write_fault (finish_by r) ≡ is_write_fault r
-  disk : is_store_stop r ≡ false → runs.is_disk_fault (finish_by r) ≡ false
-  status : IfOk r (λ answer. answer ≡ status.Ok) → OnDone (λ answer. answer ≡ status.Ok) (finish_by r)
+pub record IsMatched (r : Result Status Stop) : Type 0 where
+  pub read : runs.is_read_fault (finish_by r) ≡ is_read_fault r
+  pub write : runs.is_write_fault (finish_by r) ≡ is_write_fault r
+  pub fault : runs.is_disk_fault (finish_by r) ≡ is_disk_fault r
+  pub disk : is_store_stop r ≡ false → runs.is_disk_fault (finish_by r) ≡ false
+  pub status : IfOk r (λ answer. answer ≡ status.Ok) → OnDone (λ answer. answer ≡ status.Ok) (finish_by r)
 
-matched : (r : Result Status Stop) → IsMatched r
-matched (Ok answer) = record { read = refl; write = refl; disk = λ none. refl; status = λ all. all }
-matched (Err (ReadFault file)) = record { read = refl; write = refl; disk = λ none. refl; status = λ all. tt }
-matched (Err NoMemory) = record { read = refl; write = refl; disk = λ none. refl; status = λ all. tt }
-matched (Err WriteFault) = record { read = refl; write = refl; disk = λ none. refl; status = λ all. tt }
-matched (Err DiskFault) = record { read = refl; write = refl; disk = λ none. absurd (true≢false none); status = λ all. tt }
-matched (Err NotLoaded) = record { read = refl; write = refl; disk = λ none. refl; status = λ all. tt }
-matched (Err AlreadyLoaded) = record { read = refl; write = refl; disk = λ none. refl; status = λ all. tt }
-matched (Err (Damaged words)) = record { read = refl; write = refl; disk = λ none. refl; status = λ all. tt }
-matched (Err (Refused words)) = record { read = refl; write = refl; disk = λ none. refl; status = λ all. tt }
-matched (Err Usage) = record { read = refl; write = refl; disk = λ none. refl; status = λ all. tt }
-matched (Err (BadSpec words)) = record { read = refl; write = refl; disk = λ none. refl; status = λ all. tt }
-matched (Err (BadInput words)) = record { read = refl; write = refl; disk = λ none. refl; status = λ all. tt }
-matched (Err (BadQuery words)) = record { read = refl; write = refl; disk = λ none. refl; status = λ all. tt }
-matched (Err (Limit words)) = record { read = refl; write = refl; disk = λ none. refl; status = λ all. tt }
-matched (Err (NoFile file)) = record { read = refl; write = refl; disk = λ none. refl; status = λ all. tt }
+pub matched : (r : Result Status Stop) → IsMatched r
+matched (Ok answer) = record { read = refl; write = refl; fault = refl; disk = λ none. refl; status = λ all. all }
+matched (Err (ReadFault file)) = record { read = refl; write = refl; fault = refl; disk = λ none. refl; status = λ all. tt }
+matched (Err NoMemory) = record { read = refl; write = refl; fault = refl; disk = λ none. refl; status = λ all. tt }
+matched (Err WriteFault) = record { read = refl; write = refl; fault = refl; disk = λ none. refl; status = λ all. tt }
+matched (Err DiskFault) = record { read = refl; write = refl; fault = refl; disk = λ none. absurd (true≢false none); status = λ all. tt }
+matched (Err NotLoaded) = record { read = refl; write = refl; fault = refl; disk = λ none. refl; status = λ all. tt }
+matched (Err AlreadyLoaded) = record { read = refl; write = refl; fault = refl; disk = λ none. refl; status = λ all. tt }
+matched (Err (Damaged words)) = record { read = refl; write = refl; fault = refl; disk = λ none. refl; status = λ all. tt }
+matched (Err (Refused words)) = record { read = refl; write = refl; fault = refl; disk = λ none. refl; status = λ all. tt }
+matched (Err Usage) = record { read = refl; write = refl; fault = refl; disk = λ none. refl; status = λ all. tt }
+matched (Err (BadSpec words)) = record { read = refl; write = refl; fault = refl; disk = λ none. refl; status = λ all. tt }
+matched (Err (BadInput words)) = record { read = refl; write = refl; fault = refl; disk = λ none. refl; status = λ all. tt }
+matched (Err (BadQuery words)) = record { read = refl; write = refl; fault = refl; disk = λ none. refl; status = λ all. tt }
+matched (Err (Limit words)) = record { read = refl; write = refl; fault = refl; disk = λ none. refl; status = λ all. tt }
+matched (Err (NoFile file)) = record { read = refl; write = refl; fault = refl; disk = λ none. refl; status = λ all. tt }
 
 -- ---- runs
 
 -- a claim of the files that are held
-at_held : (P : Held → Type 0) (held : Option Held) (h : Held) → held ≡ Some h → IfSome held P → P h
+pub at_held : (P : Held → Type 0) (held : Option Held) (h : Held) → held ≡ Some h → IfSome held P → P h
 at_held P held h is claim = subst (λ (o : Option Held). IfSome o P) is claim
 
 module _ {F D : Type 0} (seen : Seen F D) (r : Result Status Stop) (disks : seen.after.disks ≡ seen.before.disks) (held : seen.after.held ≡ seen.before.held) (done : IfOk r (λ answer. answer ≡ status.Ok))
@@ -102,9 +103,9 @@ no_run seen same = record {
   told = λ h m is premise. record { is = refl; printed = ap (λ scene. scene.out) same ∙ sym (gained_nothing seen.before.out) };
 }
 
--- another command
-pub not_apart : {P : Type 0} (command other : naming.Command) → command ≡ other → is_apart (said other) ≡ false → is_apart (said command) ≡ true → P
-not_apart command other is never here = absurd (true≢false (sym here ∙ ap (λ (k : naming.Command). is_apart (said k)) is ∙ never))
+-- a command of another kind
+pub not_so : {P : Type 0} (is_so : Command → Bool) (command other : naming.Command) → command ≡ other → is_so (said other) ≡ false → is_so (said command) ≡ true → P
+not_so is_so command other is never here = absurd (true≢false (sym here ∙ ap (λ (k : naming.Command). is_so (said k)) is ∙ never))
 
 pub as_said : {F D : Type 0} (seen : Seen F D) (r : Result Status Stop) (command : naming.Command) (other : Command) → said command ≡ other → IsApartRun warehouse (Some other) seen (finish_by r) → IsApartRun warehouse (Some (said command)) seen (finish_by r)
 as_said seen r command other is run = subst (λ (k : Command). IsApartRun warehouse (Some k) seen (finish_by r)) (sym is) run

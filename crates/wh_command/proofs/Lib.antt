@@ -1,4 +1,5 @@
 pub mod Apart
+pub mod Asking
 pub mod Asks
 pub mod Audits
 pub mod BySets
@@ -14,6 +15,7 @@ pub mod MakeRun
 pub mod Making
 pub mod Numbered
 pub mod Passed
+pub mod Questions
 pub mod ReadNames
 pub mod Ready
 pub mod RefreshAll

@@ -57,7 +57,7 @@ pub texts_still : (texts : List (List ℕ)) → HaveNoChange (map text_step text
 texts_still [] = tt
 texts_still (text ∷ texts) = (refl, texts_still texts)
 
-plan_still : (r : Result (List (List ℕ)) Stop) → HaveNoChange (steps_of (texts_plan r))
+pub plan_still : (r : Result (List (List ℕ)) Stop) → HaveNoChange (steps_of (texts_plan r))
 plan_still (Ok texts) = texts_still texts
 plan_still (Err stop) = tt
 

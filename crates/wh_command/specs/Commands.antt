@@ -99,6 +99,22 @@ abbrev pub are_apart : Option Command → Bool
 are_apart None = true
 are_apart (Some command) = is_apart command
 
+-- a command that only asks of the store
+abbrev pub is_asking : Command → Bool
+is_asking (show spec_name dir) = false
+is_asking (plan spec_name) = false
+is_asking (load spec_name dir) = false
+is_asking (refresh names) = false
+is_asking (query text) = true
+is_asking (dump word) = true
+is_asking (audit word file) = true
+is_asking report = true
+is_asking (make number size) = false
+
+abbrev pub are_asking : Option Command → Bool
+are_asking None = false
+are_asking (Some command) = is_asking command
+
 -- what a command comes to over the held files and what the two files of the store stand for
 abbrev pub expected : Command → Held → Holding → Outcome
 expected (show spec_name dir) held start = stays start (show_texts held spec_name dir)

@@ -1,6 +1,7 @@
 -- What the two disks of a store stand for.
 use Rattle.std.specs.Prelude.{◌≡◌, ◌⊎◌, ℕ, List, Option, Some}
-use Rattle.wh_io.specs.Crash.{LeavesOnly, Only}
+use Rattle.wh_io.specs.Crash.{IsSettled, LeavesOnly, Only}
+use Rattle.wh_runs.specs.Disks as runs
 use Rattle.wh_store.specs.declared.warehouse.Which.{Which}
 use Rattle.wh_store.specs.declared.warehouse.Which.TheVariants.{First, Second}
 use Rattle.wh_store.specs.Commit.{active_of, other_of}
@@ -16,6 +17,10 @@ pub record BothRest {D : Type 0} (content : D → Option (List ℕ)) (images : D
   pub settled_first : Only a (images first)
   pub settled_second : Only b (images second)
   pub is : holding a b ≡ state
+
+-- nothing is pending on either
+abbrev pub AreSettled : {D : Type 0} → runs.Form D → runs.Disks D → Type 0
+AreSettled form disks = IsSettled (form.content disks.first) (form.images disks.first) × IsSettled (form.content disks.second) (form.images disks.second)
 
 -- whatever pair a crash leaves stands for one of two states
 abbrev pub BothLeave : {D : Type 0} → (D → List ℕ → Type 0) → D → D → Holding → Holding → Type 0

@@ -1,14 +1,18 @@
 // The commands `query TEXT` and `dump RELATION`: rows of a store that stays as it is.
-ghost use Rattle.std.specs.Prelude.{◌≡◌, ◌<◌, ◌≤◌, length, Some, IfOk, IfSome, false};
+ghost use Rattle.std.specs.Prelude.{◌≡◌, ◌<◌, ◌≤◌, length, Some, IfOk, IfSome, OnOk, false};
 ghost use Rattle.wh_answer.specs.Answer.{IsOverSources, IsTypedQuery, answer_text};
 ghost use Rattle.wh_io.specs.Causes.{IsCounted, IsCountedPair};
 ghost use Rattle.wh_io.specs.Crash.{LeavesOnly};
+ghost use Rattle.wh_runs.specs.Disks.{both, form};
+ghost use Rattle.wh_runs.specs.Opens.{AreUnwritten};
 ghost use Rattle.wh_spec_text.specs.Textual.{IsTextualSpec};
 ghost use Rattle.wh_store.specs.Image.{holding};
 ghost use Rattle.wh_store.specs.Warehouse.{HoldsValues, IsInForm, IsWarehouseOf};
 ghost use Rattle.wh_command.specs.Ask.{EndsAsk, TellsText, answer_in, answered, dump_outcome, query_in, query_outcome, relation_in, relation_named, relation_place, relation_query};
-ghost use Rattle.wh_command.specs.Disks.{BothRest};
+ghost use Rattle.wh_command.specs.Disks.{AreSettled, BothRest};
+ghost use Rattle.wh_command.specs.Plans.{text_plan};
 ghost use Rattle.wh_command.specs.Steps.{Settles, BlamesNone, is_usage, is_read_fault, is_write_fault, is_disk_fault};
+ghost use Rattle.wh_command.specs.Told.{EndsAsking};
 
 use crate::status::Status;
 use crate::stop::Stop;
@@ -35,6 +39,8 @@ pub fn query<O: Sink, D: Disk, L: Ledger>(
 ) -> Result<Status, Stop>
     ensures ends { (start : _) → BothRest D.content D.images first.old second.old start →
         EndsAsk D.content D.images D.moment D.images_since (query_outcome text.now start) first.old first.new second.old second.new (O.taken out.old) (O.taken out.new) result }
+    ensures asked { EndsAsking (form D.Disk) (both first.old second.old) (both first.new second.new) (λ m. text_plan (answered m (query_in text.now))) (λ m k file. ⊥) (O.taken out.old) (O.taken out.new) result }
+    ensures unwritten { AreUnwritten (form D.Disk) (both first.old second.old) (both first.new second.new) }
     ensures first_same { D.content first.new ≡ D.content first.old }
     ensures second_same { D.content second.new ≡ D.content second.old }
     ensures read { is_read_fault result ≡ false }
@@ -62,6 +68,8 @@ pub fn dump<O: Sink, D: Disk, L: Ledger>(
 ) -> Result<Status, Stop>
     ensures ends { (start : _) → BothRest D.content D.images first.old second.old start →
         EndsAsk D.content D.images D.moment D.images_since (dump_outcome word.now start) first.old first.new second.old second.new (O.taken out.old) (O.taken out.new) result }
+    ensures asked { EndsAsking (form D.Disk) (both first.old second.old) (both first.new second.new) (λ m. text_plan (answered m (relation_in word.now))) (λ m k file. ⊥) (O.taken out.old) (O.taken out.new) result }
+    ensures unwritten { AreUnwritten (form D.Disk) (both first.old second.old) (both first.new second.new) }
     ensures first_same { D.content first.new ≡ D.content first.old }
     ensures second_same { D.content second.new ≡ D.content second.old }
     ensures read { is_read_fault result ≡ false }
@@ -87,6 +95,8 @@ fn answer_query<D: Disk, L: Ledger>(
     steps: &mut Steps<L>,
 ) -> Result<Bytes, Stop>
     ensures answer { IfSome (D.content first.old) (λ a. IfSome (D.content second.old) (λ b. Settles (Some (answered (holding a b) (query_in text.now))) result)) }
+    ensures unwritten { AreUnwritten (form D.Disk) (both first.old second.old) (both first.new second.new) }
+    ensures settled { OnOk result (AreSettled (form D.Disk) (both first.new second.new)) }
     ensures first_same { D.content first.new ≡ D.content first.old }
     ensures second_same { D.content second.new ≡ D.content second.old }
     ensures first_moments { LeavesOnly D.moment D.images_since first.old first.new (D.images first.old) }
@@ -113,6 +123,8 @@ fn answer_dump<D: Disk, L: Ledger>(
     steps: &mut Steps<L>,
 ) -> Result<Bytes, Stop>
     ensures answer { IfSome (D.content first.old) (λ a. IfSome (D.content second.old) (λ b. Settles (Some (answered (holding a b) (relation_in word.now))) result)) }
+    ensures unwritten { AreUnwritten (form D.Disk) (both first.old second.old) (both first.new second.new) }
+    ensures settled { OnOk result (AreSettled (form D.Disk) (both first.new second.new)) }
     ensures first_same { D.content first.new ≡ D.content first.old }
     ensures second_same { D.content second.new ≡ D.content second.old }
     ensures first_moments { LeavesOnly D.moment D.images_since first.old first.new (D.images first.old) }

@@ -1,16 +1,21 @@
 // The command `audit RELATION FILE`: the change file that turns a relation into the rows of a dump. The store stays as it is.
-ghost use Rattle.std.specs.Prelude.{◌≡◌, ◌<◌, ◌≤◌, length, Some, Ok, IfOk, IfSome, false};
+ghost use Rattle.std.specs.Prelude.{◌≡◌, ◌<◌, ◌≤◌, length, Some, Ok, IfOk, IfSome, OnOk, false};
 ghost use Rattle.std.specs.Option.{option_map};
 ghost use Rattle.wh_io.specs.Causes.{IsCounted, IsCountedPair};
 ghost use Rattle.wh_io.specs.Crash.{LeavesOnly};
 ghost use Rattle.wh_report.specs.Audit.{audit_text};
+ghost use Rattle.wh_runs.specs.Disks.{both, form};
+ghost use Rattle.wh_runs.specs.Opens.{AreUnwritten};
 ghost use Rattle.wh_schema.specs.Warehouse.{relation_at};
 ghost use Rattle.wh_store.specs.Image.{holding};
 ghost use Rattle.wh_store.specs.Warehouse.{IsInForm, IsWarehouseOf};
 ghost use Rattle.wh_command.specs.Ask.{EndsAsk};
-ghost use Rattle.wh_command.specs.Disks.{BothRest};
+ghost use Rattle.wh_command.specs.Disks.{AreSettled, BothRest};
+ghost use Rattle.wh_command.specs.Plans.{text_plan};
+ghost use Rattle.wh_command.specs.Profiles.{AtFirst};
 ghost use Rattle.wh_command.specs.Report.{IsReadByAudit, IsRelationName, audit_outcome, audited, audited_at, audited_in};
 ghost use Rattle.wh_command.specs.Steps.{Settles, BlamesFiles, BlamesNone, NamesRead, is_usage, is_read_fault, is_write_fault, is_disk_fault};
+ghost use Rattle.wh_command.specs.Told.{EndsAsking};
 
 use crate::ask::{named_relation, print};
 use crate::inputs::read_named;
@@ -38,6 +43,9 @@ pub fn audit<F: Files, O: Sink, D: Disk, L: Ledger>(
     ensures ends { IfSome (F.held files.old) (λ held. (start : _) → BothRest D.content D.images first.old second.old start →
         EndsAsk D.content D.images D.moment D.images_since (audit_outcome held word.now file.now start) first.old first.new second.old second.new (O.taken out.old) (O.taken out.new) result) }
     ensures names { (start : _) → BothRest D.content D.images first.old second.old start → NamesRead (IsReadByAudit word.now file.now start) result }
+    ensures asked { IfSome (F.held files.old) (λ held. EndsAsking (form D.Disk) (both first.old second.old) (both first.new second.new)
+        (λ m. text_plan (audited held word.now file.now m)) (λ m. AtFirst (IsReadByAudit word.now file.now m)) (O.taken out.old) (O.taken out.new) result) }
+    ensures unwritten { AreUnwritten (form D.Disk) (both first.old second.old) (both first.new second.new) }
     ensures first_same { D.content first.new ≡ D.content first.old }
     ensures second_same { D.content second.new ≡ D.content second.old }
     ensures same { F.held files.new ≡ F.held files.old }
@@ -67,6 +75,8 @@ fn store_audit<F: Files, D: Disk, L: Ledger>(
 ) -> Result<Bytes, Stop>
     ensures answer { IfSome (D.content first.old) (λ a. IfSome (D.content second.old) (λ b. Settles (option_map (λ held. audited held word.now file.now (holding a b)) (F.held files.old)) result)) }
     ensures names { IfSome (D.content first.old) (λ a. IfSome (D.content second.old) (λ b. NamesRead (IsReadByAudit word.now file.now (holding a b)) result)) }
+    ensures unwritten { AreUnwritten (form D.Disk) (both first.old second.old) (both first.new second.new) }
+    ensures settled { OnOk result (AreSettled (form D.Disk) (both first.new second.new)) }
     ensures first_same { D.content first.new ≡ D.content first.old }
     ensures second_same { D.content second.new ≡ D.content second.old }
     ensures first_moments { LeavesOnly D.moment D.images_since first.old first.new (D.images first.old) }

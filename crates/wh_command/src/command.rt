@@ -1,7 +1,7 @@
 // The commands, by their words.
 ghost use Rattle.std.specs.Prelude.{◌≡◌, ◌≤◌, Some, true};
 ghost use Rattle.wh_io.specs.Causes.{IsCounted, IsCountedPair};
-ghost use Rattle.wh_command.specs.Commands.{IsWithin, are_apart, command_of, is_apart, said, words_of};
+ghost use Rattle.wh_command.specs.Commands.{IsWithin, are_apart, are_asking, command_of, is_apart, is_asking, said, words_of};
 ghost use Rattle.wh_command.specs.Profiles.{warehouse};
 ghost use Rattle.wh_command.specs.Run.{Finishes, Crashes, ReadsOnce};
 ghost use Rattle.wh_command.specs.Steps.{is_read_fault, is_write_fault, is_disk_fault};
@@ -9,6 +9,7 @@ ghost use Rattle.wh_command.specs.Told.{finish_by};
 ghost use Rattle.wh_runs.specs.Answers.{Answers};
 ghost use Rattle.wh_runs.specs.Apart.{IsApartRun};
 ghost use Rattle.wh_runs.specs.Disks.{both, form};
+ghost use Rattle.wh_runs.specs.Questions.{IsAskingRun};
 
 use crate::ask::{dump, query};
 use crate::audit::audit;
@@ -45,6 +46,12 @@ pub fn perform<F: Files, O: Sink, D: Disk, L: Ledger>(
           after = record { files = files.new; held = F.held files.new; files_faults = F.faults files.new; out = O.taken out.new; out_faults = O.faults out.new; disks = both first.new second.new };
         })
         (finish_by result) }
+    ensures asking { are_asking (command_of (words_of words.now)) ≡ true → Answers (form D.Disk) warehouse (command_of (words_of words.now))
+        (record {
+          before = record { files = files.old; held = F.held files.old; files_faults = F.faults files.old; out = O.taken out.old; out_faults = O.faults out.old; disks = both first.old second.old };
+          after = record { files = files.new; held = F.held files.new; files_faults = F.faults files.new; out = O.taken out.new; out_faults = O.faults out.new; disks = both first.new second.new };
+        })
+        (finish_by result) }
     ensures same { F.held files.new ≡ F.held files.old }
     ensures read { IsCounted (is_read_fault result) (F.faults files.old) (F.faults files.new) }
     ensures write { IsCounted (is_write_fault result) (O.faults out.old) (O.faults out.new) }
@@ -74,6 +81,12 @@ fn perform_command<F: Files, O: Sink, D: Disk, L: Ledger>(
         (record { held = F.held files.new; out = O.taken out.new; first = first.new; second = second.new }) result }
     ensures crash { Crashes D.content D.images D.moment D.images_since (Some (said command.entry)) (F.held files.old) first.old first.new second.old second.new }
     ensures apart { is_apart (said command.entry) ≡ true → IsApartRun warehouse (Some (said command.entry))
+        (record {
+          before = record { files = files.old; held = F.held files.old; files_faults = F.faults files.old; out = O.taken out.old; out_faults = O.faults out.old; disks = both first.old second.old };
+          after = record { files = files.new; held = F.held files.new; files_faults = F.faults files.new; out = O.taken out.new; out_faults = O.faults out.new; disks = both first.new second.new };
+        })
+        (finish_by result) }
+    ensures asking { is_asking (said command.entry) ≡ true → IsAskingRun (form D.Disk) warehouse (Some (said command.entry))
         (record {
           before = record { files = files.old; held = F.held files.old; files_faults = F.faults files.old; out = O.taken out.old; out_faults = O.faults out.old; disks = both first.old second.old };
           after = record { files = files.new; held = F.held files.new; files_faults = F.faults files.new; out = O.taken out.new; out_faults = O.faults out.new; disks = both first.new second.new };

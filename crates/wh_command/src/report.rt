@@ -1,14 +1,18 @@
 // The command `report`: how many rows the store has, and how many the sources. The store stays as it is.
-ghost use Rattle.std.specs.Prelude.{◌≡◌, ◌≤◌, Some, Ok, IfOk, IfSome, false};
+ghost use Rattle.std.specs.Prelude.{◌≡◌, ◌≤◌, Some, Ok, IfOk, IfSome, OnOk, false};
 ghost use Rattle.wh_io.specs.Causes.{IsCounted, IsCountedPair};
 ghost use Rattle.wh_io.specs.Crash.{LeavesOnly};
 ghost use Rattle.wh_report.specs.Report.{report_text};
+ghost use Rattle.wh_runs.specs.Disks.{both, form};
+ghost use Rattle.wh_runs.specs.Opens.{AreUnwritten};
 ghost use Rattle.wh_store.specs.Image.{holding};
 ghost use Rattle.wh_store.specs.Warehouse.{IsInForm, IsWarehouseOf};
 ghost use Rattle.wh_command.specs.Ask.{EndsAsk};
-ghost use Rattle.wh_command.specs.Disks.{BothRest};
+ghost use Rattle.wh_command.specs.Disks.{AreSettled, BothRest};
+ghost use Rattle.wh_command.specs.Plans.{text_plan};
 ghost use Rattle.wh_command.specs.Report.{report_outcome, reported};
 ghost use Rattle.wh_command.specs.Steps.{Settles, BlamesNone, is_usage, is_read_fault, is_write_fault, is_disk_fault};
+ghost use Rattle.wh_command.specs.Told.{EndsAsking};
 
 use crate::ask::print;
 use crate::status::Status;
@@ -30,6 +34,8 @@ pub fn report<O: Sink, D: Disk, L: Ledger>(
 ) -> Result<Status, Stop>
     ensures ends { (start : _) → BothRest D.content D.images first.old second.old start →
         EndsAsk D.content D.images D.moment D.images_since (report_outcome start) first.old first.new second.old second.new (O.taken out.old) (O.taken out.new) result }
+    ensures asked { EndsAsking (form D.Disk) (both first.old second.old) (both first.new second.new) (λ m. text_plan (reported m)) (λ m k file. ⊥) (O.taken out.old) (O.taken out.new) result }
+    ensures unwritten { AreUnwritten (form D.Disk) (both first.old second.old) (both first.new second.new) }
     ensures first_same { D.content first.new ≡ D.content first.old }
     ensures second_same { D.content second.new ≡ D.content second.old }
     ensures first_moments { LeavesOnly D.moment D.images_since first.old first.new (D.images first.old) }
@@ -56,6 +62,8 @@ fn store_report<D: Disk, L: Ledger>(
     steps: &mut Steps<L>,
 ) -> Result<Bytes, Stop>
     ensures answer { IfSome (D.content first.old) (λ a. IfSome (D.content second.old) (λ b. Settles (Some (reported (holding a b))) result)) }
+    ensures unwritten { AreUnwritten (form D.Disk) (both first.old second.old) (both first.new second.new) }
+    ensures settled { OnOk result (AreSettled (form D.Disk) (both first.new second.new)) }
     ensures first_same { D.content first.new ≡ D.content first.old }
     ensures second_same { D.content second.new ≡ D.content second.old }
     ensures first_moments { LeavesOnly D.moment D.images_since first.old first.new (D.images first.old) }

@@ -7,11 +7,14 @@ ghost use Rattle.wh_codec.specs.Body.{IsSpelledRow};
 ghost use Rattle.wh_io.specs.Causes.{IsCountedPair};
 ghost use Rattle.wh_io.specs.Crash.{IsSettled, LeavesOnly};
 ghost use Rattle.wh_plan.specs.Plan.{IsPlan, too_many};
+ghost use Rattle.wh_runs.specs.Disks.{both, form};
+ghost use Rattle.wh_runs.specs.Opens.{AreUnwritten};
 ghost use Rattle.wh_spec_text.specs.Textual.{IsTextualSpec};
 ghost use Rattle.wh_store.specs.Image.{holding, fit_stored, first_over};
 ghost use Rattle.wh_store.specs.Store.{are_empty, loaded_file, IsEmptyOrLoaded};
 ghost use Rattle.wh_store.specs.Warehouse.{HoldsValues, IsInForm};
 ghost use Rattle.wh_command.specs.Ask.{IsNeeded, IsOpeningStop};
+ghost use Rattle.wh_command.specs.Disks.{AreSettled};
 ghost use Rattle.wh_command.specs.Load.{if_unloaded, IsMade, IsMakingStop};
 ghost use Rattle.wh_command.specs.RefreshSteps.{IsPlaced, IsReady};
 ghost use Rattle.wh_command.specs.Steps.{Settles, UnlessDisk, OnStop, is_usage, is_read_fault, is_write_fault, is_disk_fault};
@@ -101,6 +104,8 @@ pub fn open_needed<D: Disk>(alloc: Global, first: &mut D, second: &mut D) -> Res
     ensures answer { IfSome (D.content first.old) (λ a. IfSome (D.content second.old) (λ b. IsNeeded (holding a b) result)) }
     ensures form { IfOk result IsInForm }
     ensures values { IfOk result HoldsValues }
+    ensures unwritten { AreUnwritten (form D.Disk) (both first.old second.old) (both first.new second.new) }
+    ensures settled { OnOk result (AreSettled (form D.Disk) (both first.new second.new)) }
     ensures first_same { D.content first.new ≡ D.content first.old }
     ensures second_same { D.content second.new ≡ D.content second.old }
     ensures first_moments { LeavesOnly D.moment D.images_since first.old first.new (D.images first.old) }

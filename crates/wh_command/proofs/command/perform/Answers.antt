@@ -4,6 +4,7 @@ use Rattle.wh_runs.specs.Disks.{form}
 use Rattle.wh_command.proofs.Apart.{no_run, runs_answer}
 use Rattle.wh_command.specs.Commands.{said, words_of}
 use Rattle.wh_command.proofs.Commands.{apart_crashes, named_crashes, named_finishes, named_reads, no_reads, none_finishes}
+use Rattle.wh_command.proofs.Questions.{questions_answer}
 use Rattle.wh_command.proofs.Within.{within_by}
 use Rattle.wh_command.proofs.command.perform.Goals as goal
 
@@ -38,3 +39,10 @@ returns-in-Some-clause-apart g c =
 pub returns-in-None-clause-apart : goal.returns-in-None-clause-apart
 returns-in-None-clause-apart g c =
     runs_answer (form g.D.Disk) g.met.D.Disk.content_is_left g.met.D.Disk.only_now _ (Err Usage) None _ c.in-None.ensures (λ is. no_run _ refl)
+
+pub returns-in-Some-clause-asking : goal.returns-in-Some-clause-asking
+returns-in-Some-clause-asking g c =
+    questions_answer (form g.D.Disk) g.met.D.Disk.content_is_left _ c.perform_command.result (Some (said c.in-Some.command)) _ c.in-Some.ensures c.perform_command.ensures.asking
+
+pub returns-in-None-clause-asking : goal.returns-in-None-clause-asking
+returns-in-None-clause-asking g c = questions_answer (form g.D.Disk) g.met.D.Disk.content_is_left _ (Err Usage) None _ c.in-None.ensures (λ is. absurd (cc (is)))

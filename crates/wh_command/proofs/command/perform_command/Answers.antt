@@ -1,8 +1,10 @@
 use Rattle.std.proofs.Common.{ap, refl, Some}
-use Rattle.wh_command.proofs.Apart.{as_said, not_apart, plan_run, show_run}
+use Rattle.wh_command.proofs.Apart.{as_said, not_so, plan_run, show_run}
 use Rattle.wh_command.specs.declared.naming.Command as naming
-use Rattle.wh_command.specs.Commands.{show, plan, query, dump, audit, report, said, words_of}
+use Rattle.wh_runs.specs.Disks.{form}
+use Rattle.wh_command.specs.Commands.{show, plan, query, dump, audit, report, is_apart, is_asking, said, words_of}
 use Rattle.wh_command.proofs.Commands.{apart_crashes, apart_finishes, asked_crashes, asked_finishes, each_held, load_crashes, load_finishes, make_crashes, make_finishes, plan_from, refresh_crashes, refresh_finishes, show_from}
+use Rattle.wh_command.proofs.Questions.{as_asked, audit_run, dump_run, query_run, report_run}
 use Rattle.wh_command.proofs.ReadNames.{names_none}
 use Rattle.wh_command.proofs.command.perform_command.Goals as goal
 
@@ -99,22 +101,57 @@ returns-in-Plan-clause-apart g c = λ is.
     (plan_run _ _ refl c.plan.ensures.same c.plan.ensures.done c.plan.ensures.read c.plan.ensures.write c.plan.ensures.store c.in-Plan.spec.now c.plan.ensures.told)
 
 pub returns-in-Load-clause-apart : goal.returns-in-Load-clause-apart
-returns-in-Load-clause-apart g c = not_apart c.args.command _ c.in-Load.is refl
+returns-in-Load-clause-apart g c = not_so is_apart c.args.command _ c.in-Load.is refl
 
 pub returns-in-Refresh-clause-apart : goal.returns-in-Refresh-clause-apart
-returns-in-Refresh-clause-apart g c = not_apart c.args.command _ c.in-Refresh.is refl
+returns-in-Refresh-clause-apart g c = not_so is_apart c.args.command _ c.in-Refresh.is refl
 
 pub returns-in-Query-clause-apart : goal.returns-in-Query-clause-apart
-returns-in-Query-clause-apart g c = not_apart c.args.command _ c.in-Query.is refl
+returns-in-Query-clause-apart g c = not_so is_apart c.args.command _ c.in-Query.is refl
 
 pub returns-in-Dump-clause-apart : goal.returns-in-Dump-clause-apart
-returns-in-Dump-clause-apart g c = not_apart c.args.command _ c.in-Dump.is refl
+returns-in-Dump-clause-apart g c = not_so is_apart c.args.command _ c.in-Dump.is refl
 
 pub returns-in-Audit-clause-apart : goal.returns-in-Audit-clause-apart
-returns-in-Audit-clause-apart g c = not_apart c.args.command _ c.in-Audit.is refl
+returns-in-Audit-clause-apart g c = not_so is_apart c.args.command _ c.in-Audit.is refl
 
 pub returns-in-Report-clause-apart : goal.returns-in-Report-clause-apart
-returns-in-Report-clause-apart g c = not_apart c.args.command _ c.in-Report.is refl
+returns-in-Report-clause-apart g c = not_so is_apart c.args.command _ c.in-Report.is refl
 
 pub returns-in-Make-clause-apart : goal.returns-in-Make-clause-apart
-returns-in-Make-clause-apart g c = not_apart c.args.command _ c.in-Make.is refl
+returns-in-Make-clause-apart g c = not_so is_apart c.args.command _ c.in-Make.is refl
+
+pub returns-in-Show-clause-asking : goal.returns-in-Show-clause-asking
+returns-in-Show-clause-asking g c = not_so is_asking c.args.command _ c.in-Show.is refl
+
+pub returns-in-Plan-clause-asking : goal.returns-in-Plan-clause-asking
+returns-in-Plan-clause-asking g c = not_so is_asking c.args.command _ c.in-Plan.is refl
+
+pub returns-in-Load-clause-asking : goal.returns-in-Load-clause-asking
+returns-in-Load-clause-asking g c = not_so is_asking c.args.command _ c.in-Load.is refl
+
+pub returns-in-Refresh-clause-asking : goal.returns-in-Refresh-clause-asking
+returns-in-Refresh-clause-asking g c = not_so is_asking c.args.command _ c.in-Refresh.is refl
+
+pub returns-in-Make-clause-asking : goal.returns-in-Make-clause-asking
+returns-in-Make-clause-asking g c = not_so is_asking c.args.command _ c.in-Make.is refl
+
+pub returns-in-Query-clause-asking : goal.returns-in-Query-clause-asking
+returns-in-Query-clause-asking g c = λ is.
+    as_asked (form g.D.Disk) _ _ c.args.command (query c.in-Query.text.now) (ap (λ (k : naming.Command). said k) c.in-Query.is)
+    (query_run (form g.D.Disk) _ _ refl c.query.ensures.done c.query.ensures.write c.query.ensures.disk c.query.ensures.unwritten c.query.ensures.read refl refl c.in-Query.text.now c.query.ensures.asked)
+
+pub returns-in-Dump-clause-asking : goal.returns-in-Dump-clause-asking
+returns-in-Dump-clause-asking g c = λ is.
+    as_asked (form g.D.Disk) _ _ c.args.command (dump c.in-Dump.relation.now) (ap (λ (k : naming.Command). said k) c.in-Dump.is)
+    (dump_run (form g.D.Disk) _ _ refl c.dump.ensures.done c.dump.ensures.write c.dump.ensures.disk c.dump.ensures.unwritten c.dump.ensures.read refl refl c.in-Dump.relation.now c.dump.ensures.asked)
+
+pub returns-in-Report-clause-asking : goal.returns-in-Report-clause-asking
+returns-in-Report-clause-asking g c = λ is.
+    as_asked (form g.D.Disk) _ _ c.args.command report (ap (λ (k : naming.Command). said k) c.in-Report.is)
+    (report_run (form g.D.Disk) _ _ refl c.report.ensures.done c.report.ensures.write c.report.ensures.disk c.report.ensures.unwritten c.report.ensures.read refl refl c.report.ensures.asked)
+
+pub returns-in-Audit-clause-asking : goal.returns-in-Audit-clause-asking
+returns-in-Audit-clause-asking g c = λ is.
+    as_asked (form g.D.Disk) _ _ c.args.command (audit c.in-Audit.relation.now c.in-Audit.file.now) (ap (λ (k : naming.Command). said k) c.in-Audit.is)
+    (audit_run (form g.D.Disk) _ _ c.audit.ensures.same c.audit.ensures.done c.audit.ensures.write c.audit.ensures.disk c.audit.ensures.unwritten c.in-Audit.relation.now c.in-Audit.file.now c.audit.ensures.read c.audit.ensures.asked)

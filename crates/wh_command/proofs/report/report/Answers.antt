@@ -1,5 +1,7 @@
 use Rattle.wh_command.specs.Report.{reported}
 use Rattle.wh_command.proofs.Asks.{asks_stop, asks_tell}
+use Rattle.wh_runs.specs.Disks.{both, form}
+use Rattle.wh_command.proofs.Asking.{asking_stops, asking_tells, no_names}
 use Rattle.wh_command.proofs.report.report.Goals as goal
 
 pub returns-in-Ok-clause-ends : goal.returns-in-Ok-clause-ends
@@ -11,3 +13,13 @@ pub returns-in-Err-clause-ends : goal.returns-in-Err-clause-ends
 returns-in-Err-clause-ends g c =
     asks_stop g.D.Disk.content g.D.Disk.images g.D.Disk.moment g.D.Disk.images_since _ _ _ _ reported c.store_report.ensures.first_same c.store_report.ensures.second_same c.store_report.ensures.first_moments c.store_report.ensures.second_moments
     (g.met.D.Disk.counts_now _) (g.met.D.Disk.counts_now _) _ c.in-Err.stop c.in-Err.ensures.write c.in-Err.ensures.answer
+
+pub returns-in-Ok-clause-asked : goal.returns-in-Ok-clause-asked
+returns-in-Ok-clause-asked g c =
+    asking_tells (form g.D.Disk) (both c.args.first.now c.args.second.now) (both c.store_report.new.first c.store_report.new.second) reported (λ m k name. ⊥)
+    c.store_report.ensures.unwritten c.in-Ok.ensures.settled _ _ c.in-Ok.text _ c.in-Ok.ensures.answer c.print.ensures.tells
+
+pub returns-in-Err-clause-asked : goal.returns-in-Err-clause-asked
+returns-in-Err-clause-asked g c =
+    asking_stops (form g.D.Disk) (both c.args.first.now c.args.second.now) (both c.store_report.new.first c.store_report.new.second) reported (λ m k name. ⊥) _ c.in-Err.stop c.in-Err.ensures.write
+    (no_names (g.D.Disk.content c.args.first.now) (g.D.Disk.content c.args.second.now) c.in-Err.stop c.in-Err.ensures.read) c.in-Err.ensures.answer
