@@ -1,4 +1,5 @@
 mod Attributes
+mod Gains
 mod Joins
 mod Orders
 mod Replaced
