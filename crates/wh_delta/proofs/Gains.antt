@@ -1,8 +1,7 @@
 -- The rows that a view gains, from candidates that are looked up in the rows from before.
 use Rattle.std.proofs.Common.{◌≡◌, ℕ, ◌<◌, ◌+◌, Bool, true, false, not, ◌&&◌, List, [], ◌∷◌, ◌++◌, map, filter, take, get_or, set, length, All, Contains, None, slice_get, unwrap_or, refl, sym, ◌∙◌, ap, subst}
-use Rattle.std.specs.List.{flat_map, IsDistinct, AllByRecursion}
-use Rattle.std.specs.Cmp.{both_ways}
-use Rattle.std.proofs.lemmas.Bool.{true≢false, and_parts}
+use Rattle.std.specs.List.{flat_map, IsDistinct}
+use Rattle.std.proofs.lemmas.Bool.{and_parts}
 use Rattle.std.proofs.lemmas.List.{take_more, append-nil, length-map, get_or-set_same}
 use Rattle.std.proofs.lemmas.List.Elements.{All-contains, All-map, recursion_from_All, Contains-get_or}
 use Rattle.std.proofs.lemmas.List.Kept.{IsStrictlySortedBy-filter}

@@ -4,10 +4,9 @@ use Rattle.std.proofs.lemmas.List.{take_all}
 use Rattle.std.proofs.lemmas.List.Elements.{All-append, Contains-get_or}
 use Rattle.wh_base.specs.declared.value.Value.{Value}
 use Rattle.wh_base.specs.RowSet.{has, SameRows}
-use Rattle.wh_delta.specs.Candidates.{MembersStand}
 use Rattle.wh_delta.specs.Changes.{changed_at}
 use Rattle.wh_delta_laws.specs.Laws.{AreAmong}
-use Rattle.wh_schema.specs.Warehouse.{State, view_at, view_table}
+use Rattle.wh_schema.specs.Warehouse.{view_table}
 use Rattle.wh_delta.proofs.Gains.{AreWide, flat_more}
 use Rattle.wh_delta.proofs.changed.changed_candidates.Goals as goal
 

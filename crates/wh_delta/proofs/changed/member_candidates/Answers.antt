@@ -1,6 +1,6 @@
-use Rattle.std.proofs.Common.{sym, subst, List, ℕ, Contains, ap}
+use Rattle.std.proofs.Common.{sym, subst, Contains}
 use Rattle.wh_schema.specs.declared.spec.View.{View}
-use Rattle.wh_delta.proofs.Gains.{AreWide, none_given}
+use Rattle.wh_delta.proofs.Gains.{none_given}
 use Rattle.wh_delta.proofs.changed.member_candidates.Goals as goal
 
 pub returns-then-is_empty-clause-rows : goal.returns-then-is_empty-clause-rows

@@ -1,10 +1,9 @@
-use Rattle.std.proofs.Common.{ℕ, List, Contains, sym, ◌∙◌, ap, subst}
+use Rattle.std.proofs.Common.{List, Contains, sym, ◌∙◌, ap, subst}
 use Rattle.std.proofs.lemmas.Result.{IfOk-weaker}
 use Rattle.wh_base.specs.declared.value.Value.{Value}
 use Rattle.wh_base.specs.Tables.{without}
 use Rattle.wh_delta.specs.Candidates.{HasMembers, MembersStand}
 use Rattle.wh_delta.specs.Changes.{HasView, inserted_at}
-use Rattle.wh_delta_laws.specs.Connected.{IsConnected}
 use Rattle.wh_delta_laws.specs.Deltas.{candidates_from}
 use Rattle.wh_delta_laws.proofs.Deltas.{given_rows_same}
 use Rattle.wh_schema.specs.declared.spec.View.{View}
