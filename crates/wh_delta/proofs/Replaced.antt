@@ -106,7 +106,7 @@ touches_at spec taken (k ∷ ks) (suc i) g l =
 
 -- ---- the tables of a base are those of a state
 
-distinct_test : (names : List Name) → IsDistinct name_eq names → are_distinct names ≡ true
+pub distinct_test : (names : List Name) → IsDistinct name_eq names → are_distinct names ≡ true
 distinct_test [] d = refl
 distinct_test (n ∷ ns) d =
     let apart : Contains ns n → ⊥ = λ h.

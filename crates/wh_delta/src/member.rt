@@ -1,5 +1,6 @@
 //! The rows that a view has where one of its members has other rows.
-ghost use Rattle.std.specs.Prelude.{◌≡◌, ◌≤◌, ℕ, [], not, nat_eq, drop, filter, get_or, set, Contains, IfOk};
+ghost use Rattle.std.specs.Prelude.{◌≡◌, ◌≤◌, ℕ, List, [], not, nat_eq, drop, filter, get_or, length, set, All, Contains, IfOk};
+ghost use Rattle.wh_base.specs.declared.value.Value.{Value};
 ghost use Rattle.wh_base.specs.RowSet.{SameRows};
 ghost use Rattle.wh_delta.specs.Candidates.{AreLater, HasMembers, MembersStand};
 ghost use Rattle.wh_delta_laws.specs.Connected.{IsConnected};
@@ -56,6 +57,7 @@ pub fn candidates<B: Base, L: Ledger>(
     ensures rows { (t : State) (j : ℕ) → MembersStand spec.now view.now (B.rows_at base.now) t j
         → AreAmong rows (get_or t member [])
         → IfOk result (λ found. SameRows found (view_table spec.now (set t member rows) j).rows) }
+    ensures widths { IfOk result (All (λ (row : List Value). length row ≡ length view.now.head)) }
     ensures probes { steps.old.probes ≤ steps.new.probes }
     ensures rise { steps.old.scans ≤ steps.new.scans }
     ensures scans { IsConnected spec.now view.now → steps.new.scans ≡ steps.old.scans }

@@ -23,7 +23,7 @@ fn is_named(attrs: &[Attr], name: &Name) -> bool
 }
 
 /// Whether a relation has an attribute of this name. A number past the last relation has none.
-fn has_attribute(spec: &Spec, relation: u32, name: &Name) -> bool
+pub(crate) fn has_attribute(spec: &Spec, relation: u32, name: &Name) -> bool
     ensures { result ≡ is_in (columns_of spec.now relation) name.now }
 {
     match spec.relations.get(relation as usize) {

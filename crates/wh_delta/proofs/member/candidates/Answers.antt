@@ -1,9 +1,10 @@
 use Rattle.std.proofs.Common.{sym, ◌∙◌, ap, subst}
 use Rattle.wh_base.specs.Heads.{columns_at}
 use Rattle.wh_base.specs.RowSet.{has}
-use Rattle.wh_base.specs.Tables.{project}
+use Rattle.wh_base.specs.Tables.{project, select}
 use Rattle.wh_eval.specs.Relation.{table_of}
 use Rattle.wh_delta.specs.Candidates.{AreLater}
+use Rattle.wh_delta.proofs.Gains.{project_wide}
 use Rattle.wh_delta.proofs.Replaced.{later_held, later_distinct, shares_along, view_rows}
 use Rattle.wh_delta.proofs.member.candidates.Goals as goal
 
@@ -93,3 +94,9 @@ returns-clause-rows g c =
     λ t j stand sub r.
     ap (λ z. has z.rows r) made
     ∙ view_rows spec c.requires.rules v n c.requires.member heads held c.requires.members later are first columns rows t j stand sub (table_of c.in_ok-joined.joined) c.in_ok-joined.ensures.rows r
+
+pub returns-clause-widths : goal.returns-clause-widths
+returns-clause-widths g c =
+    let v = c.args.view.now in
+    let made = c.in_ok-found.ensures ∙ ap (project v.head) c.select.ensures in
+    project_wide v.head (select v.cond (table_of c.in_ok-joined.joined)) c.in_ok-found.found.rows (ap (λ z. z.rows) made)
