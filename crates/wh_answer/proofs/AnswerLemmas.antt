@@ -10,7 +10,7 @@ use Rattle.wh_schema.specs.Heads.{heads_of}
 use Rattle.wh_schema.specs.Warehouse.{Row, stored}
 use Rattle.wh_answer.specs.Answer.{AnswersAreOfState, IsOverSources, SameStored, answer_text, is_source, source_rows, state_rows}
 use Rattle.wh_answer.proofs.SameSources.{sources_same, sources_of_state}
-use Rattle.wh_answer.proofs.UsedMeaning.{SameTable-used}
+use Rattle.wh_inverse.proofs.UsedMeaning.{SameTable-used}
 
 pub text_same : (spec : Spec) (ts us : List (List Row)) (q : Query) → IsOverSources spec q → SameStored spec ts us → answer_text spec ts q ≡ answer_text spec us q
 text_same spec ts us q over h =

@@ -3,5 +3,4 @@ pub mod Below
 pub mod QuerySources
 pub mod SameSources
 pub mod TypedQueries
-pub mod UsedMeaning
 pub mod WideSources

@@ -166,10 +166,13 @@ module _ (spec : Spec) (heads : List Head) (held : ℕ → Bool) (over : ∥ IsB
       let filled : 0 < length rel.key = lt-from 0 (length rel.key) (every_from (λ (q : Relation). nat_lt 0 (length q.key)) spec.relations keys rel (Contains-get_or spec.relations r no_relation l)) in
       some-shared (key_of spec r) (columns_of spec r) (one_of (columns_of spec r) (key_of spec r) filled (λ n k. (is_in_decides (columns_of spec r) n).1 (wf.key r l n ((is_in_decides (key_of spec r) n).0 k))))
 
+  pub key-columns-some : (r : ℕ) → r < length spec.relations → 0 < length (key_columns spec r)
+  key-columns-some r l = less _ _ (λ b. key_some b.rules b.keys r l)
+
   pub key-asked : (r : ℕ) → r < length spec.relations → (columns : List (List ℕ)) (vals : List Value) → all_in columns (key_columns spec r) ≡ true → length vals ≡ length (key_columns spec r) → AreAsked columns (key_columns spec r) vals
   key-asked r l columns vals within one = record {
     within = within;
-    some = less _ _ (λ b. key_some b.rules b.keys r l);
+    some = key-columns-some r l;
     distinct = test _ _ (λ b. distinct-filter (is_in (key_of spec r)) (columns_of spec r) (distinct-test (columns_of spec r) (b.rules.distinct r l)));
     one_each = one;
   }

@@ -1,56 +1,58 @@
 -- The tables while the relations are computed one after another.
-use Rattle.std.proofs.Common.{◌≡◌, ℕ, suc, zero, ◌+◌, ◌<◌, ◌≤◌, Bool, true, false, cond, List, [], ◌∷◌, ◌++◌, length, get_or, set, replicate, fold, take, drop, nat_lt, refl, sym, ap, subst, ◌∙◌, arith, inl, inr, ◌⊎◌, length-append}
+use Rattle.std.proofs.Common.{◌≡◌, ℕ, suc, zero, ◌+◌, ◌<◌, ◌≤◌, Bool, true, false, cond, not, ◌&&◌, true≢false, List, [], ◌∷◌, ◌++◌, length, get_or, set, replicate, fold, take, nat_lt, refl, sym, ap, subst, ◌∙◌, arith, inl, inr, ◌⊎◌, length-append}
 use Rattle.std.proofs.Math.Logic.{∥∥₁_elim}
 use mathlib.Core.Bool.{Bool-set}
 use Rattle.std.specs.List.{IsDistinct}
 use Rattle.std.proofs.lemmas.Bool.{cases_eq}
-use Rattle.std.proofs.lemmas.List.{get_or-set_same, get_or-set_other, length-set, length-replicate, get_or-replicate, get_or-drop, get_or_append_left, get_or-append-add, take_more}
-use Rattle.std.proofs.lemmas.List.Elements.{Contains-get_or}
+use Rattle.std.proofs.lemmas.List.{get_or-set_same, get_or-set_other, length-set, length-replicate, get_or-replicate, get_or_append_left, get_or-append-add, take_more}
 use Rattle.wh_base.specs.declared.head.Head.{Head}
 use Rattle.wh_base.specs.Heads.{columns_at}
 use Rattle.wh_base.specs.RowSet.{has, SameRows, IsSetOf, AreDistinct}
 use Rattle.wh_base.specs.Tables.{Table}
-use Rattle.wh_base.proofs.RowSets.{SameRows-append}
 use Rattle.wh_expr.specs.declared.expr.Expr.{Expr}
-use Rattle.wh_expr.specs.Meaning.{meaning, tables as tables_of, uses_only}
+use Rattle.wh_expr.specs.Meaning.{meaning, tables as tables_of}
 use Rattle.wh_plan.specs.Expressions.{complement_number, inverse_expr}
 use Rattle.wh_plan.specs.Laws.{AreUnder, InverseExprsMeanSteps}
 use Rattle.wh_schema.specs.declared.spec.Spec.{Spec}
 use Rattle.wh_schema.specs.Reconstruction.{given, reconstructed_rows, reconstruct_next}
-use Rattle.wh_schema.specs.Warehouse.{Row, State, inclusion_at}
-use Rattle.wh_laws.proofs.Reconstruction.{Agree, covered_same}
-use Rattle.wh_inverse.specs.Filled.{table_count, first_rows, AreFilled, step_rows}
+use Rattle.wh_schema.specs.Warehouse.{Row, State}
+use Rattle.wh_inverse.specs.Filled.{table_count, is_read, first_rows, AreFilled}
 use Rattle.wh_inverse.specs.Inverse.{IsBelow, stored_below}
+use Rattle.wh_inverse.specs.Needed.{is_needed, IsClosed}
 use Rattle.wh_inverse.proofs.Tests.{lt-from, lt-test, ge-from, ge-test}
-use Rattle.wh_inverse.proofs.BelowLemmas.{relation-at, view-at, complement-at, stored-at, from-within}
-use Rattle.wh_inverse.proofs.UsesLemmas.{uses-inverse}
+use Rattle.wh_inverse.proofs.BelowLemmas.{relation-at, view-at, complement-at, stored-at}
+use Rattle.wh_inverse.proofs.NeededLemmas.{needed-within}
+use Rattle.wh_inverse.proofs.UsedMeaning.{SameTable-used}
 
 pub none-is-set : IsSetOf [] []
 unfolding IsDistinct
 none-is-set = record { distinct = tt; same = λ r. refl }
 
+away : (i r n : ℕ) → n ≤ i → r < n → i ≡ r → ⊥
+away i r n k l e = omega (arith, k, l, e)
+
 -- ---- the first tables
 
 -- the tables of the numbers below k
-pub record AreFirst (spec : Spec) (rows : ℕ → List Row) (k : ℕ) (tables : List (List Row)) : Type 0 where
+pub record AreFirst (spec : Spec) (rows : ℕ → List Row) (needed : List Bool) (k : ℕ) (tables : List (List Row)) : Type 0 where
   pub count : length tables ≡ k
-  pub sets : (i : ℕ) → i < k → IsSetOf (get_or tables i []) (first_rows spec rows i)
+  pub sets : (i : ℕ) → i < k → IsSetOf (get_or tables i []) (first_rows spec rows needed i)
 
-pub AreFirst-none : (spec : Spec) (rows : ℕ → List Row) → AreFirst spec rows 0 []
-AreFirst-none spec rows = record { count = refl; sets = λ i l. absurd (omega (arith, l)) }
+pub AreFirst-none : (spec : Spec) (rows : ℕ → List Row) (needed : List Bool) → AreFirst spec rows needed 0 []
+AreFirst-none spec rows needed = record { count = refl; sets = λ i l. absurd (omega (arith, l)) }
 
-pub AreFirst-more : (spec : Spec) (rows : ℕ → List Row) (k : ℕ) (tables more : List (List Row)) (new : List Row) → AreFirst spec rows k tables → IsSetOf new (first_rows spec rows k) → more ≡ tables ++ new ∷ [] → AreFirst spec rows (k + 1) more
-AreFirst-more spec rows k tables more new f h is = record {
+pub AreFirst-more : (spec : Spec) (rows : ℕ → List Row) (needed : List Bool) (k : ℕ) (tables more : List (List Row)) (new : List Row) → AreFirst spec rows needed k tables → IsSetOf new (first_rows spec rows needed k) → more ≡ tables ++ new ∷ [] → AreFirst spec rows needed (k + 1) more
+AreFirst-more spec rows needed k tables more new f h is = record {
   count = ap length is ∙ length-append tables (new ∷ []) ∙ ap (λ n. n + 1) f.count;
   sets = λ i l.
       elim (cases_eq i k) [
         | inl e ↦
             let at : get_or more i [] ≡ new =
             ap (λ ts. get_or ts i []) is ∙ ap (λ n. get_or (tables ++ new ∷ []) n []) (last i e) ∙ get_or-append-add tables (new ∷ []) 0 [] in
-            subst (λ ys. IsSetOf ys (first_rows spec rows i)) (sym at) (let P : ℕ → Type 0 = λ n. IsSetOf new (first_rows spec rows n) in subst P (sym e) h)
+            subst (λ ys. IsSetOf ys (first_rows spec rows needed i)) (sym at) (let P : ℕ → Type 0 = λ n. IsSetOf new (first_rows spec rows needed n) in subst P (sym e) h)
         | inr n ↦
             let before : i < k = omega (arith, l, n) in
-            subst (λ ys. IsSetOf ys (first_rows spec rows i)) (sym (ap (λ ts. get_or ts i []) is ∙ get_or_append_left tables (new ∷ []) [] i (omega (arith, before, f.count)))) (f.sets i before)
+            subst (λ ys. IsSetOf ys (first_rows spec rows needed i)) (sym (ap (λ ts. get_or ts i []) is ∙ get_or_append_left tables (new ∷ []) [] i (omega (arith, before, f.count)))) (f.sets i before)
       ];
 }
   where
@@ -70,88 +72,89 @@ split i n = by (nat_lt i n) refl
     by true e = inl (lt-from i n e)
     by false e = inr (ge-from i n e)
 
-first-relation : (spec : Spec) (rows : ℕ → List Row) (i : ℕ) → i < length spec.relations → first_rows spec rows i ≡ []
-first-relation spec rows i l = ap (λ b. cond b [] (rows i)) (lt-test i (length spec.relations) l)
+first-relation : (spec : Spec) (rows : ℕ → List Row) (needed : List Bool) (i : ℕ) → i < length spec.relations → first_rows spec rows needed i ≡ []
+first-relation spec rows needed i l = ap (λ b. cond (not b && is_needed needed i) (rows i) []) (lt-test i (length spec.relations) l)
 
-first-other : (spec : Spec) (rows : ℕ → List Row) (i : ℕ) → length spec.relations ≤ i → first_rows spec rows i ≡ rows i
-first-other spec rows i l = ap (λ b. cond b [] (rows i)) (ge-test i (length spec.relations) l)
+first-other : (spec : Spec) (rows : ℕ → List Row) (needed : List Bool) (i : ℕ) → length spec.relations ≤ i → is_needed needed i ≡ true → first_rows spec rows needed i ≡ rows i
+first-other spec rows needed i l h =
+    ap (λ b. cond (not b && is_needed needed i) (rows i) []) (ge-test i (length spec.relations) l) ∙ ap (λ b. cond b (rows i) []) h
 
--- no row stands for a relation
-pub first-set : (spec : Spec) (rows : ℕ → List Row) (i : ℕ) → i < length spec.relations → (made : List Row) → made ≡ [] → IsSetOf made (first_rows spec rows i)
-first-set spec rows i l made e = subst (λ xs. IsSetOf xs (first_rows spec rows i)) (sym e) (subst (IsSetOf []) (sym (first-relation spec rows i l)) none-is-set)
+-- no row stands where nothing is read
+pub first-set : (spec : Spec) (rows : ℕ → List Row) (needed : List Bool) (i : ℕ) → is_read spec needed i ≡ false → (made : List Row) → made ≡ [] → IsSetOf made (first_rows spec rows needed i)
+first-set spec rows needed i l made e =
+    subst (λ xs. IsSetOf xs (first_rows spec rows needed i)) (sym e) (subst (IsSetOf []) (sym (ap (λ b. cond b (rows i) []) l)) none-is-set)
 
-pub first-filled : (spec : Spec) (rows : ℕ → List Row) (k : ℕ) (tables : List (List Row)) → k ≡ table_count spec → AreFirst spec rows k tables → AreFilled spec rows (replicate (length spec.relations) []) tables
-first-filled spec rows k tables e f = record {
+pub first-filled : (spec : Spec) (rows : ℕ → List Row) (needed : List Bool) (k : ℕ) (tables : List (List Row)) → k ≡ table_count spec → AreFirst spec rows needed k tables
+    → AreFilled spec rows needed (replicate (length spec.relations) []) tables
+first-filled spec rows needed k tables e f = record {
   count = f.count ∙ e;
   distinct = λ i. elim (split i k) [
     | inl l ↦ (f.sets i l).distinct
     | inr l ↦ subst AreDistinct (sym (past tables i (omega (arith, l, f.count)))) none-is-set.distinct
   ];
   width = length-replicate (length spec.relations) [];
-  relation = λ i l q.
-      (f.sets i (omega (arith, l, e))).same q ∙ ap (λ ys. has ys q) (first-relation spec rows i l) ∙ sym (ap (λ ys. has ys q) (get_or-replicate (length spec.relations) i [] [] l));
-  other = λ i l m q. (f.sets i (omega (arith, m, e))).same q ∙ ap (λ ys. has ys q) (first-other spec rows i l);
+  relation = λ i l h q.
+      (f.sets i (omega (arith, l, e))).same q ∙ ap (λ ys. has ys q) (first-relation spec rows needed i l) ∙ sym (ap (λ ys. has ys q) (get_or-replicate (length spec.relations) i [] [] l));
+  other = λ i l m h q. (f.sets i (omega (arith, m, e))).same q ∙ ap (λ ys. has ys q) (first-other spec rows needed i l h);
 }
 
 -- ---- one relation more
 
-module _ (spec : Spec) (heads : List Head) (held : ℕ → Bool) (over : ∥ IsBelow spec heads held ∥₁) where
-  -- the tables for all numbers stand under the names of an inverse expression
-  under : (tables : List (List Row)) (hs : List Head) → hs ≡ heads → (r : ℕ) → r < length spec.relations
-      → AreUnder spec (given spec (drop (length spec.relations) tables) tables) r (get_or (drop (length spec.relations) tables) (length spec.views + r) []) (tables_of hs (λ n. get_or tables n []))
-  under tables hs e r l =
+-- the rows that are right for a number
+abbrev right_rows : Spec → (ℕ → List Row) → State → ℕ → List Row
+right_rows spec rows s i = cond (nat_lt i (length spec.relations)) (get_or s i []) (rows i)
+
+module _ (spec : Spec) (heads : List Head) (held : ℕ → Bool) (over : ∥ IsBelow spec heads held ∥₁) (rows : ℕ → List Row) (s : State) where
+  right-relation : (i : ℕ) → i < length spec.relations → right_rows spec rows s i ≡ get_or s i []
+  right-relation i l = ap (λ b. cond b (get_or s i []) (rows i)) (lt-test i (length spec.relations) l)
+
+  right-other : (i : ℕ) → length spec.relations ≤ i → right_rows spec rows s i ≡ rows i
+  right-other i l = ap (λ b. cond b (get_or s i []) (rows i)) (ge-test i (length spec.relations) l)
+
+  right-stored : (i k : ℕ) → i ≡ length spec.relations + k → k < length spec.views + length spec.relations → right_rows spec rows s i ≡ get_or (stored_below spec rows) k []
+  right-stored i k e l = right-other i (omega (arith, e)) ∙ ap rows e ∙ sym (stored-at spec rows k l)
+
+  -- they stand under the names of an inverse expression
+  under : (hs : List Head) → hs ≡ heads → (r : ℕ) → r < length spec.relations
+      → AreUnder spec (given spec (stored_below spec rows) s) r (get_or (stored_below spec rows) (length spec.views + r) []) (tables_of hs (right_rows spec rows s))
+  under hs e r l =
       let n = length spec.relations in
       record {
-        relation = λ i k. (λ j. record { columns = (ap (λ z. columns_at z i) e ∙ relation-at spec heads held over i k) j; rows = get_or tables i [] });
-        view = λ i k. (λ j. record { columns = (ap (λ z. columns_at z (n + i)) e ∙ view-at spec heads held over i k) j; rows = sym (get_or-drop n tables i []) j });
+        relation = λ i k. (λ j. record { columns = (ap (λ z. columns_at z i) e ∙ relation-at spec heads held over i k) j; rows = right-relation i k j });
+        view = λ i k. (λ j. record { columns = (ap (λ z. columns_at z (n + i)) e ∙ view-at spec heads held over i k) j; rows = right-stored (n + i) i refl (omega (arith, k)) j });
         complement = (λ j. record {
           columns = (ap (λ z. columns_at z (complement_number spec r)) e ∙ complement-at spec heads held over r l) j;
-          rows = (ap (λ z. get_or tables z []) (apart r) ∙ sym (get_or-drop n tables (length spec.views + r) [])) j;
+          rows = right-stored (complement_number spec r) (length spec.views + r) (apart r) (omega (arith, l)) j;
         });
       }
     where
       apart : (r : ℕ) → complement_number spec r ≡ length spec.relations + (length spec.views + r)
       apart r = omega arith
 
-  -- evaluated, the expression gives the rows of one step
-  pub step-found : InverseExprsMeanSteps → (tables : List (List Row)) (hs : List Head) → hs ≡ heads → (r : ℕ) → r < length spec.relations → (e : Expr) → ∥ e ≡ inverse_expr spec r ∥₁
-      → (found : List Row) → IsSetOf found (meaning (tables_of hs (λ n. get_or tables n [])) e).rows → IsSetOf found (step_rows spec tables r)
-  step-found law tables hs same r l e is found h = record {
-    distinct = h.distinct;
-    same = λ q. h.same q ∙ ∥∥₁_elim is (Bool-set _ _) (λ p. ∥∥₁_elim over (Bool-set _ _) (λ b.
-        let g = tables_of hs (λ n. get_or tables n []) in
-        ap (λ (x : Expr). has (meaning g x).rows q) p
-        ∙ ap (λ (t : Table). has t.rows q) (law spec b.rules (drop (length spec.relations) tables) tables r l g (under tables hs same r l))));
-  }
+  module _ (needed : List Bool) (flags : length needed ≡ table_count spec) (tables : List (List Row)) (f : AreFilled spec rows needed s tables) where
+    -- where a number is needed, the table has the right rows
+    right-table : (i : ℕ) → is_needed needed i ≡ true → SameRows (get_or tables i []) (right_rows spec rows s i)
+    right-table i h q = elim (split i (length spec.relations)) [
+      | inl l ↦ f.relation i l h q ∙ sym (ap (λ ys. has ys q) (right-relation i l))
+      | inr l ↦ f.other i l (omega (arith, needed-within needed i h, flags)) h q ∙ sym (ap (λ ys. has ys q) (right-other i l))
+    ]
 
-  pub step-uses : (count : ℕ) → count ≡ table_count spec → (r : ℕ) → r < length spec.relations → (e : Expr) → ∥ e ≡ inverse_expr spec r ∥₁ → uses_only (λ n. nat_lt n count) e ≡ true
-  step-uses count same r l e is = ∥∥₁_elim is (Bool-set _ _) (λ p.
-      let inside : (n : ℕ) → n < table_count spec → nat_lt n count ≡ true = λ n k. lt-test n count (omega (arith, k, same)) in
-      ap (uses_only (λ n. nat_lt n count)) p
-      ∙ uses-inverse (λ n. nat_lt n count) spec r (inside 0 (omega (arith, l))) (λ j k. inside (length spec.relations + j) (omega (arith, k, l)))
-      (λ i k.
-      let from : (inclusion_at spec i).from < length spec.relations = from-within spec heads held over (inclusion_at spec i) (Contains-get_or spec.inclusions i _ k) in
-      inside (inclusion_at spec i).from (omega (arith, from)))
-      (inside (complement_number spec r) (omega (arith, l))))
-
-  module _ (rows : ℕ → List Row) (s : State) (tables : List (List Row)) (f : AreFilled spec rows s tables) where
-    -- the stored tables are among them
-    stored-same : (k : ℕ) → k < length spec.views + length spec.relations → SameRows (get_or (drop (length spec.relations) tables) k []) (get_or (stored_below spec rows) k [])
-    stored-same k l q =
-        ap (λ ys. has ys q) (get_or-drop (length spec.relations) tables k []) ∙ f.other (length spec.relations + k) (omega arith) (omega (arith, l)) q
-        ∙ sym (ap (λ ys. has ys q) (stored-at spec rows k l))
-
-    agrees : (r : ℕ) → Agree spec r (given spec (drop (length spec.relations) tables) tables) (given spec (stored_below spec rows) s)
-    agrees r = record {
-      views = λ j l. record { columns = refl; rows = stored-same j (omega (arith, l)) };
-      sources = λ c k e. record { columns = refl; rows = f.relation c.from (from-within spec heads held over c k) };
+    -- evaluated, the expression of a relation that is needed gives the rows of one step
+    pub step-found : InverseExprsMeanSteps → IsClosed spec needed → (hs : List Head) → hs ≡ heads → (r : ℕ) → r < length spec.relations → is_needed needed r ≡ true
+        → (e : Expr) → ∥ e ≡ inverse_expr spec r ∥₁ → (found : List Row) → IsSetOf found (meaning (tables_of hs (λ n. get_or tables n [])) e).rows
+        → IsSetOf found (reconstructed_rows spec (stored_below spec rows) s r)
+    step-found law closed hs same r l own e is found h = record {
+      distinct = h.distinct;
+      same = λ q. h.same q ∙ ∥∥₁_elim is (Bool-set _ _) (λ p. ∥∥₁_elim over (Bool-set _ _) (λ b.
+          let g = tables_of hs (λ n. get_or tables n []) in
+          let k = tables_of hs (right_rows spec rows s) in
+          ap (λ (x : Expr). has (meaning g x).rows q) p
+          ∙ (SameTable-used (is_needed needed) g k (λ i m. record { columns = refl; rows = right-table i m }) (inverse_expr spec r) (closed r l own (is_needed needed) (λ n m. m))).rows q
+          ∙ ap (λ (t : Table). has t.rows q) (law spec b.rules (stored_below spec rows) s r l k (under hs same r l))));
     }
 
-    step-same : (r : ℕ) → r < length spec.relations → SameRows (step_rows spec tables r) (reconstructed_rows spec (stored_below spec rows) s r)
-    step-same r l = SameRows-append _ _ _ _ (stored-same (length spec.views + r) (omega (arith, l))) (covered_same spec r _ _ (agrees r))
-
-    pub next-filled : (r : ℕ) → r < length spec.relations → (new : List Row) → IsSetOf new (step_rows spec tables r) → (more : List (List Row)) → more ≡ set tables r new
-        → AreFilled spec rows (reconstruct_next spec (stored_below spec rows) s r) more
+    pub next-filled : (r : ℕ) → r < length spec.relations → (new : List Row) → IsSetOf new (reconstructed_rows spec (stored_below spec rows) s r) → (more : List (List Row)) → more ≡ set tables r new
+        → AreFilled spec rows needed (reconstruct_next spec (stored_below spec rows) s r) more
     next-filled r l new h more is =
         let made = reconstructed_rows spec (stored_below spec rows) s r in
         let inside : r < length tables = omega (arith, l, f.count) in
@@ -164,17 +167,24 @@ module _ (spec : Spec) (heads : List Head) (held : ℕ → Bool) (over : ∥ IsB
             | inr n ↦ subst AreDistinct (sym (at_other i n)) (f.distinct i)
           ];
           width = length-set s r made ∙ f.width;
-          relation = λ i k. elim (cases_eq i r) [
+          relation = λ i k m. elim (cases_eq i r) [
             | inl e ↦
                 let P : ℕ → Type 0 = λ n. SameRows (get_or more n []) (get_or (set s r made) n []) in
-                subst P (sym e) (λ q. ap (λ ys. has ys q) at_r ∙ h.same q ∙ step-same r l q ∙ sym (ap (λ ys. has ys q) (get_or-set_same s r made [] (omega (arith, l, f.width)))))
-            | inr n ↦ λ q. ap (λ ys. has ys q) (at_other i n) ∙ f.relation i k q ∙ sym (ap (λ ys. has ys q) (get_or-set_other s r i made [] n))
+                subst P (sym e) (λ q. ap (λ ys. has ys q) at_r ∙ h.same q ∙ sym (ap (λ ys. has ys q) (get_or-set_same s r made [] (omega (arith, l, f.width)))))
+            | inr n ↦ λ q. ap (λ ys. has ys q) (at_other i n) ∙ f.relation i k m q ∙ sym (ap (λ ys. has ys q) (get_or-set_other s r i made [] n))
           ];
-          other = λ i k m q. ap (λ ys. has ys q) (at_other i (λ e. apart i r k l e)) ∙ f.other i k m q;
+          other = λ i k m h q. ap (λ ys. has ys q) (at_other i (λ e. away i r (length spec.relations) k l e)) ∙ f.other i k m h q;
         }
-      where
-        apart : (i r : ℕ) → length spec.relations ≤ i → r < length spec.relations → i ≡ r → ⊥
-        apart i r k l e = omega (arith, k, l, e)
+
+    -- a relation that is not needed may stay without rows
+    pub skip-filled : (r : ℕ) → r < length spec.relations → is_needed needed r ≡ false → AreFilled spec rows needed (reconstruct_next spec (stored_below spec rows) s r) tables
+    skip-filled r l not_own = record {
+      count = f.count;
+      distinct = f.distinct;
+      width = length-set s r (reconstructed_rows spec (stored_below spec rows) s r) ∙ f.width;
+      relation = λ i k m q. f.relation i k m q ∙ sym (ap (λ ys. has ys q) (get_or-set_other s r i (reconstructed_rows spec (stored_below spec rows) s r) [] (λ e. true≢false (sym m ∙ ap (is_needed needed) e ∙ not_own))));
+      other = f.other;
+    }
 
 -- ---- all relations
 

@@ -6,10 +6,12 @@ pub mod FilledLemmas
 pub mod FirstByKey
 pub mod FoundLemmas
 pub mod GivenLemmas
+pub mod NeededLemmas
 pub mod PieceLemmas
 pub mod Places
 pub mod PlanFacts
 pub mod StoredSets
 pub mod Tests
+pub mod UsedMeaning
 pub mod UsesLemmas
 pub mod WalkLemmas

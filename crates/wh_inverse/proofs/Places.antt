@@ -20,7 +20,7 @@ abbrev pub place : List ℕ → ℕ → ℕ
 place [] n = 0
 place (m ∷ ms) n = cond (nat_eq n m) 0 (suc (place ms n))
 
-place_in : (ms : List ℕ) (n : ℕ) → Contains ms n → place ms n < length ms
+pub place_in : (ms : List ℕ) (n : ℕ) → Contains ms n → place ms n < length ms
 place_in [] n h = absurd (Contains-nil n h)
 place_in (m ∷ ms) n h = by (nat_eq n m) refl (place_in ms n)
   where

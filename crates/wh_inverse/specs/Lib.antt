@@ -3,3 +3,4 @@ pub mod ByKey
 pub mod Filled
 pub mod Inverse
 pub mod Laws
+pub mod Needed

@@ -4,6 +4,7 @@
 mod by_key;
 mod inverse;
 mod laws;
+mod needed;
 mod parts;
 mod planned;
 mod relations;

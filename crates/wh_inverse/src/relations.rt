@@ -1,15 +1,16 @@
 //! The relations, computed one after another.
-ghost use Rattle.std.specs.Prelude.{◌≡◌, ◌≤◌, ◌<◌, [], set, replicate, take, length, get_or, IfOk};
+ghost use Rattle.std.specs.Prelude.{◌≡◌, ◌≤◌, ◌<◌, true, [], set, replicate, take, length, get_or, IfOk};
 ghost use Rattle.wh_base.specs.RowSet.{IsSetOf};
-ghost use Rattle.wh_covers.specs.Covers.{IsNumbered};
 ghost use Rattle.wh_eval.specs.Lists.{HasDistinctRows};
-ghost use Rattle.wh_inverse.specs.Filled.{table_count, first_rows, step_rows, AreFilled};
+ghost use Rattle.wh_inverse.specs.Filled.{table_count, is_read, first_rows, AreFilled};
 ghost use Rattle.wh_inverse.specs.Inverse.{stored_below};
-ghost use Rattle.wh_schema.specs.Reconstruction.{reconstruct_next, reconstructed};
+ghost use Rattle.wh_inverse.specs.Needed.{is_needed, IsClosed};
+ghost use Rattle.wh_schema.specs.Reconstruction.{reconstruct_next, reconstructed, reconstructed_rows};
 ghost use Rattle.wh_schema.specs.Warehouse.{State as SourceState, SameState};
 
 use crate::inverse::Inverse;
-use crate::planned::inverse_of;
+use crate::needed::{all_needed, needed_for, table_count};
+use crate::planned::{inverse_of, is_relation};
 use std::alloc::Global;
 use wh_base::{NoMemory, Rows, State};
 use wh_eval::{Base, Lists, eval};
@@ -17,29 +18,31 @@ use wh_plan::inverse_exprs_mean_steps;
 use wh_schema::Spec;
 use wh_steps::{Ledger, Steps};
 
-fn table_count(spec: &Spec) -> u32
-    requires { IsNumbered spec.now }
-    ensures { result ≡ table_count spec.now }
+fn is_read(spec: &Spec, needed: &[bool], number: u32) -> bool
+    requires { number < length needed.now }
+    ensures { result ≡ is_read spec.now needed.now number }
 {
-    spec.relations.len() as u32 + spec.views.len() as u32 + spec.relations.len() as u32
+    !is_relation(spec, number) && needed[number as usize]
 }
 
-/// No row for a relation, and the rows of the base below for another number.
+/// The rows of the base below for each stored table that is needed, and no row for another number.
 fn first_rows<B: Base, L: Ledger>(
     alloc: Global,
     inverse: &Inverse<'_, B>,
+    needed: &[bool],
     number: u32,
     steps: &mut Steps<L>,
 ) -> Result<Rows, NoMemory>
-    requires { number < table_count inverse.now.plan.now.spec }
-    ensures rows { IfOk result (λ rows. IsSetOf rows (first_rows inverse.now.plan.now.spec (B.rows_at inverse.now.below.now) number)) }
+    requires number { number < table_count inverse.now.plan.now.spec }
+    requires count { length needed.now ≡ table_count inverse.now.plan.now.spec }
+    ensures rows { IfOk result (λ rows. IsSetOf rows (first_rows inverse.now.plan.now.spec (B.rows_at inverse.now.below.now) needed.now number)) }
     ensures probes { steps.old.probes ≤ steps.new.probes }
     ensures scans { steps.old.scans ≤ steps.new.scans }
 {
-    if (number as usize) < inverse.plan.spec.relations.len() {
-        Ok(Rows::new(alloc))
-    } else {
+    if is_read(&inverse.plan.spec, needed, number) {
         inverse.below.rows(alloc, number, steps)
+    } else {
+        Ok(Rows::new(alloc))
     }
 }
 
@@ -47,15 +50,17 @@ fn first_rows<B: Base, L: Ledger>(
 fn first_tables<B: Base, L: Ledger>(
     alloc: Global,
     inverse: &Inverse<'_, B>,
+    needed: &[bool],
     steps: &mut Steps<L>,
 ) -> Result<State, NoMemory>
-    ensures tables { IfOk result (λ tables. AreFilled inverse.now.plan.now.spec (B.rows_at inverse.now.below.now) (replicate (length inverse.now.plan.now.spec.relations) []) tables) }
+    requires { length needed.now ≡ table_count inverse.now.plan.now.spec }
+    ensures tables { IfOk result (λ tables. AreFilled inverse.now.plan.now.spec (B.rows_at inverse.now.below.now) needed.now (replicate (length inverse.now.plan.now.spec.relations) []) tables) }
     ensures probes { steps.old.probes ≤ steps.new.probes }
     ensures scans { steps.old.scans ≤ steps.new.scans }
 {
     let mut tables = State::new(alloc);
     for number in 0..table_count(&inverse.plan.spec) {
-        tables.push(first_rows(alloc, inverse, number, steps)?)?;
+        tables.push(first_rows(alloc, inverse, needed, number, steps)?)?;
     }
     Ok(tables)
 }
@@ -64,14 +69,19 @@ fn first_tables<B: Base, L: Ledger>(
 fn next_rows<B: Base, L: Ledger>(
     alloc: Global,
     inverse: &Inverse<'_, B>,
+    needed: &[bool],
     tables: &State,
     rel: u32,
     steps: &mut Steps<L>,
 ) -> Result<Rows, NoMemory>
     requires relation { rel < length inverse.now.plan.now.spec.relations }
+    requires needed { is_needed needed.now rel ≡ true }
+    requires flags { length needed.now ≡ table_count inverse.now.plan.now.spec }
+    requires closed { IsClosed inverse.now.plan.now.spec needed.now }
     requires count { length tables.now ≡ table_count inverse.now.plan.now.spec }
     requires distinct { HasDistinctRows tables.now }
-    ensures rows { IfOk result (λ rows. IsSetOf rows (step_rows inverse.now.plan.now.spec tables.now rel)) }
+    ensures rows { IfOk result (λ rows. (s : SourceState) → AreFilled inverse.now.plan.now.spec (B.rows_at inverse.now.below.now) needed.now s tables.now
+        → IsSetOf rows (reconstructed_rows inverse.now.plan.now.spec (stored_below inverse.now.plan.now.spec (B.rows_at inverse.now.below.now)) s rel)) }
     ensures probes { steps.old.probes ≤ steps.new.probes }
     ensures scans { steps.old.scans ≤ steps.new.scans }
 {
@@ -89,39 +99,48 @@ fn with_rows(tables: State, rel: u32, rows: Rows) -> State
     State::from_vec(items)
 }
 
-/// The tables with one relation more, and what they are then.
+/// The tables with one relation more where it is needed, and what they are then.
 fn next_tables<B: Base, L: Ledger>(
     alloc: Global,
     inverse: &Inverse<'_, B>,
+    needed: &[bool],
     tables: State,
     rel: u32,
     steps: &mut Steps<L>,
 ) -> Result<State, NoMemory>
     requires relation { rel < length inverse.now.plan.now.spec.relations }
+    requires flags { length needed.now ≡ table_count inverse.now.plan.now.spec }
+    requires closed { IsClosed inverse.now.plan.now.spec needed.now }
     requires count { length tables ≡ table_count inverse.now.plan.now.spec }
     requires distinct { HasDistinctRows tables }
-    ensures tables { IfOk result (λ more. (s : SourceState) → AreFilled inverse.now.plan.now.spec (B.rows_at inverse.now.below.now) s tables
-        → AreFilled inverse.now.plan.now.spec (B.rows_at inverse.now.below.now) (reconstruct_next inverse.now.plan.now.spec (stored_below inverse.now.plan.now.spec (B.rows_at inverse.now.below.now)) s rel) more) }
+    ensures tables { IfOk result (λ more. (s : SourceState) → AreFilled inverse.now.plan.now.spec (B.rows_at inverse.now.below.now) needed.now s tables
+        → AreFilled inverse.now.plan.now.spec (B.rows_at inverse.now.below.now) needed.now (reconstruct_next inverse.now.plan.now.spec (stored_below inverse.now.plan.now.spec (B.rows_at inverse.now.below.now)) s rel) more) }
     ensures probes { steps.old.probes ≤ steps.new.probes }
     ensures scans { steps.old.scans ≤ steps.new.scans }
 {
-    let rows = next_rows(alloc, inverse, &tables, rel, steps)?;
+    if !needed[rel as usize] {
+        return Ok(tables);
+    }
+    let rows = next_rows(alloc, inverse, needed, &tables, rel, steps)?;
     Ok(with_rows(tables, rel, rows))
 }
 
-/// Tables for all numbers, each relation computed once, in the order of the plan.
-fn all_tables<B: Base, L: Ledger>(
+/// Tables for all numbers, each relation that is needed computed once, in the order of the plan.
+fn tables_of<B: Base, L: Ledger>(
     alloc: Global,
     inverse: &Inverse<'_, B>,
+    needed: &[bool],
     steps: &mut Steps<L>,
 ) -> Result<State, NoMemory>
-    ensures tables { IfOk result (λ tables. AreFilled inverse.now.plan.now.spec (B.rows_at inverse.now.below.now) (reconstructed inverse.now.plan.now.spec (stored_below inverse.now.plan.now.spec (B.rows_at inverse.now.below.now))) tables) }
+    requires flags { length needed.now ≡ table_count inverse.now.plan.now.spec }
+    requires closed { IsClosed inverse.now.plan.now.spec needed.now }
+    ensures tables { IfOk result (λ tables. AreFilled inverse.now.plan.now.spec (B.rows_at inverse.now.below.now) needed.now (reconstructed inverse.now.plan.now.spec (stored_below inverse.now.plan.now.spec (B.rows_at inverse.now.below.now))) tables) }
     ensures probes { steps.old.probes ≤ steps.new.probes }
     ensures scans { steps.old.scans ≤ steps.new.scans }
 {
-    let mut tables = first_tables(alloc, inverse, steps)?;
+    let mut tables = first_tables(alloc, inverse, needed, steps)?;
     for rel in inverse.plan.order.as_slice() {
-        tables = next_tables(alloc, inverse, tables, *rel, steps)?;
+        tables = next_tables(alloc, inverse, needed, tables, *rel, steps)?;
     }
     Ok(tables)
 }
@@ -134,7 +153,7 @@ fn taken_out(tables: State, rel: u32) -> Rows
     items.swap_remove(rel as usize)
 }
 
-/// Each row of a relation once.
+/// Each row of a relation once. No more is computed and read than what the relation is computed from.
 pub(crate) fn relation_rows<B: Base, L: Ledger>(
     alloc: Global,
     inverse: &Inverse<'_, B>,
@@ -146,7 +165,8 @@ pub(crate) fn relation_rows<B: Base, L: Ledger>(
     ensures probes { steps.old.probes ≤ steps.new.probes }
     ensures scans { steps.old.scans ≤ steps.new.scans }
 {
-    let tables = all_tables(alloc, inverse, steps)?;
+    let needed = needed_for(alloc, inverse, rel)?;
+    let tables = tables_of(alloc, inverse, &needed, steps)?;
     Ok(taken_out(tables, rel))
 }
 
@@ -170,6 +190,7 @@ pub(crate) fn all_relations<B: Base, L: Ledger>(
     ensures probes { steps.old.probes ≤ steps.new.probes }
     ensures scans { steps.old.scans ≤ steps.new.scans }
 {
-    let tables = all_tables(alloc, inverse, steps)?;
+    let needed = all_needed(alloc, inverse)?;
+    let tables = tables_of(alloc, inverse, &needed, steps)?;
     Ok(first_of(tables, inverse.plan.spec.relations.len()))
 }

@@ -8,7 +8,7 @@ use Rattle.wh_inverse.specs.Inverse.{stored_below}
 use Rattle.wh_inverse.proofs.FilledLemmas.{fold-more}
 use Rattle.wh_inverse.proofs.Places.{order-within}
 use Rattle.wh_inverse.proofs.PlanFacts.{order-is}
-use Rattle.wh_inverse.proofs.relations.all_tables.Goals as goal
+use Rattle.wh_inverse.proofs.relations.tables_of.Goals as goal
 
 pub next_tables-requires-clause-relation : goal.next_tables-requires-clause-relation
 next_tables-requires-clause-relation g c =
@@ -30,7 +30,7 @@ loop-rel-preserved g c =
     record {
       probes = omega (arith, c.in_ok-tables-2.ensures.probes, c.loop-rel.invariant.probes);
       scans = omega (arith, c.in_ok-tables-2.ensures.scans, c.loop-rel.invariant.scans);
-      filled = subst (λ (b : State). AreFilled spec rows b c.in_ok-tables-2.tables) (sym (fold-more f none items k 0 (omega arith)))
+      filled = subst (λ (b : State). AreFilled spec rows c.args.needed.now b c.in_ok-tables-2.tables) (sym (fold-more f none items k 0 (omega arith)))
           (c.in_ok-tables-2.ensures.tables (fold f none (take k items)) c.loop-rel.invariant.filled);
     }
 
@@ -43,4 +43,4 @@ returns-clause-tables g c =
     let none : State = replicate (length spec.relations) [] in
     let items = c.as_slice-rel-items.result.now in
     let all : take c.loop-rel.rel-index items ≡ order spec = take_all c.loop-rel.rel-index items (omega arith) ∙ c.as_slice-rel-items.ensures ∙ order-is s.plan.now s.planned in
-    subst (λ (l : List ℕ). AreFilled spec rows (fold f none l) c.loop-rel.tables) all c.loop-rel.invariant.filled
+    subst (λ (l : List ℕ). AreFilled spec rows c.args.needed.now (fold f none l) c.loop-rel.tables) all c.loop-rel.invariant.filled

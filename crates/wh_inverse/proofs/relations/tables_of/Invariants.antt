@@ -2,7 +2,7 @@ use Rattle.std.proofs.Common.{◌≤◌, fold, take, replicate, length, []}
 use Rattle.wh_schema.specs.Reconstruction.{reconstruct_next}
 use Rattle.wh_inverse.specs.Filled.{AreFilled}
 use Rattle.wh_inverse.specs.Inverse.{stored_below}
-use Rattle.wh_inverse.proofs.relations.all_tables.Given as goal
+use Rattle.wh_inverse.proofs.relations.tables_of.Given as goal
 
 abbrev pub invariant-loop-rel : goal.invariant-loop-rel
 invariant-loop-rel g l =
@@ -11,5 +11,5 @@ invariant-loop-rel g l =
     record {
       probes : l.fn.steps.probes ≤ l.steps.probes;
       scans : l.fn.steps.scans ≤ l.steps.scans;
-      filled : AreFilled spec rows (fold (reconstruct_next spec (stored_below spec rows)) (replicate (length spec.relations) []) (take l.rel-index l.rel-items)) l.tables;
+      filled : AreFilled spec rows l.needed.now (fold (reconstruct_next spec (stored_below spec rows)) (replicate (length spec.relations) []) (take l.rel-index l.rel-items)) l.tables;
     }
