@@ -2,6 +2,7 @@
 use Rattle.std.proofs.Common.{◌≡◌, ℕ, suc, zero, ◌+◌, ◌<◌, ◌≤◌, Bool, true, false, cond, not, ◌&&◌, true≢false, List, [], ◌∷◌, ◌++◌, length, get_or, set, replicate, fold, take, nat_lt, refl, sym, ap, subst, ◌∙◌, arith, inl, inr, ◌⊎◌, length-append}
 use Rattle.std.proofs.Math.Logic.{∥∥₁_elim}
 use mathlib.Core.Bool.{Bool-set}
+use Rattle.std.specs.Cmp.{first_so}
 use Rattle.std.specs.List.{IsDistinct}
 use Rattle.std.proofs.lemmas.Bool.{cases_eq}
 use Rattle.std.proofs.lemmas.List.{get_or-set_same, get_or-set_other, length-set, length-replicate, get_or-replicate, get_or_append_left, get_or-append-add, take_more}
@@ -78,6 +79,14 @@ first-relation spec rows needed i l = ap (λ b. cond (not b && is_needed needed 
 first-other : (spec : Spec) (rows : ℕ → List Row) (needed : List Bool) (i : ℕ) → length spec.relations ≤ i → is_needed needed i ≡ true → first_rows spec rows needed i ≡ rows i
 first-other spec rows needed i l h =
     ap (λ b. cond (not b && is_needed needed i) (rows i) []) (ge-test i (length spec.relations) l) ∙ ap (λ b. cond b (rows i) []) h
+
+unless : (b : Bool) → not b ≡ true → b ≡ false
+unless true h = absurd (true≢false (sym h))
+unless false h = refl
+
+-- what is read is no relation
+pub read-high : (spec : Spec) (needed : List Bool) (i : ℕ) → is_read spec needed i ≡ true → length spec.relations ≤ i
+read-high spec needed i h = ge-from i (length spec.relations) (unless _ (first_so (not (nat_lt i (length spec.relations))) (is_needed needed i) h))
 
 -- no row stands where nothing is read
 pub first-set : (spec : Spec) (rows : ℕ → List Row) (needed : List Bool) (i : ℕ) → is_read spec needed i ≡ false → (made : List Row) → made ≡ [] → IsSetOf made (first_rows spec rows needed i)

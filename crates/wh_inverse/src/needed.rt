@@ -19,6 +19,13 @@ pub(crate) fn table_count(spec: &Spec) -> u32
     spec.relations.len() as u32 + spec.views.len() as u32 + spec.relations.len() as u32
 }
 
+pub(crate) fn is_needed(flags: &[bool], number: u32) -> bool
+    requires { number < length flags.now }
+    ensures { result ≡ is_needed flags.now number }
+{
+    flags[number as usize]
+}
+
 fn flag(flags: &mut [bool], number: u32)
     ensures { flags.new ≡ set flags.old number true }
 {
@@ -36,7 +43,15 @@ fn flag_names(e: &Expr, flags: &mut [bool])
         Expr::Select(_, part) => flag_names(part.get(), flags),
         Expr::Project(_, part) => flag_names(part.get(), flags),
         Expr::Rename(_, part) => flag_names(part.get(), flags),
-        Expr::Join(left, right) | Expr::Union(left, right) | Expr::Minus(left, right) => {
+        Expr::Join(left, right) => {
+            flag_names(left.get(), flags);
+            flag_names(right.get(), flags);
+        }
+        Expr::Union(left, right) => {
+            flag_names(left.get(), flags);
+            flag_names(right.get(), flags);
+        }
+        Expr::Minus(left, right) => {
             flag_names(left.get(), flags);
             flag_names(right.get(), flags);
         }
@@ -49,7 +64,7 @@ fn flag_sources<B: Base>(inverse: &Inverse<'_, B>, rel: u32, flags: &mut [bool])
     requires count { length flags.now ≡ table_count inverse.now.plan.now.spec }
     ensures { AddsSources inverse.now.plan.now.spec rel flags.old flags.new }
 {
-    if flags[rel as usize] {
+    if is_needed(flags, rel) {
         flag_names(inverse_of(inverse, rel), flags);
     }
 }
@@ -75,9 +90,9 @@ pub(crate) fn needed_for<B: Base>(
     rel: u32,
 ) -> Result<Vec<bool>, NoMemory>
     requires { rel < length inverse.now.plan.now.spec.relations }
-    ensures count { IfOk result (λ flags. length flags ≡ table_count inverse.now.plan.now.spec) }
-    ensures relation { IfOk result (λ flags. is_needed flags rel ≡ true) }
-    ensures closed { IfOk result (IsClosed inverse.now.plan.now.spec) }
+    ensures count { IfOk result (λ flags. length flags.items ≡ table_count inverse.now.plan.now.spec) }
+    ensures relation { IfOk result (λ flags. is_needed flags.items rel ≡ true) }
+    ensures closed { IfOk result (λ flags. IsClosed inverse.now.plan.now.spec flags.items) }
 {
     let mut flags = vec![in alloc; false; table_count(&inverse.plan.spec) as usize]?;
     flag(&mut flags, rel);
@@ -90,9 +105,9 @@ pub(crate) fn all_needed<B: Base>(
     alloc: Global,
     inverse: &Inverse<'_, B>,
 ) -> Result<Vec<bool>, NoMemory>
-    ensures count { IfOk result (λ flags. length flags ≡ table_count inverse.now.plan.now.spec) }
-    ensures all { IfOk result (λ flags. flags ≡ replicate (table_count inverse.now.plan.now.spec) true) }
-    ensures closed { IfOk result (IsClosed inverse.now.plan.now.spec) }
+    ensures count { IfOk result (λ flags. length flags.items ≡ table_count inverse.now.plan.now.spec) }
+    ensures all { IfOk result (λ flags. flags.items ≡ replicate (table_count inverse.now.plan.now.spec) true) }
+    ensures closed { IfOk result (λ flags. IsClosed inverse.now.plan.now.spec flags.items) }
 {
     let flags = vec![in alloc; true; table_count(&inverse.plan.spec) as usize]?;
     Ok(flags)

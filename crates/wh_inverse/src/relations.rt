@@ -9,7 +9,7 @@ ghost use Rattle.wh_schema.specs.Reconstruction.{reconstruct_next, reconstructed
 ghost use Rattle.wh_schema.specs.Warehouse.{State as SourceState, SameState};
 
 use crate::inverse::Inverse;
-use crate::needed::{all_needed, needed_for, table_count};
+use crate::needed::{all_needed, is_needed, needed_for, table_count};
 use crate::planned::{inverse_of, is_relation};
 use std::alloc::Global;
 use wh_base::{NoMemory, Rows, State};
@@ -22,7 +22,7 @@ fn is_read(spec: &Spec, needed: &[bool], number: u32) -> bool
     requires { number < length needed.now }
     ensures { result ≡ is_read spec.now needed.now number }
 {
-    !is_relation(spec, number) && needed[number as usize]
+    !is_relation(spec, number) && is_needed(needed, number)
 }
 
 /// The rows of the base below for each stored table that is needed, and no row for another number.
@@ -118,11 +118,12 @@ fn next_tables<B: Base, L: Ledger>(
     ensures probes { steps.old.probes ≤ steps.new.probes }
     ensures scans { steps.old.scans ≤ steps.new.scans }
 {
-    if !needed[rel as usize] {
-        return Ok(tables);
+    if is_needed(needed, rel) {
+        let rows = next_rows(alloc, inverse, needed, &tables, rel, steps)?;
+        Ok(with_rows(tables, rel, rows))
+    } else {
+        Ok(tables)
     }
-    let rows = next_rows(alloc, inverse, needed, &tables, rel, steps)?;
-    Ok(with_rows(tables, rel, rows))
 }
 
 /// Tables for all numbers, each relation that is needed computed once, in the order of the plan.

@@ -6,5 +6,5 @@ abbrev pub invariant-loop-number : goal.invariant-loop-number
 invariant-loop-number g l = record {
   probes : l.fn.steps.probes ≤ l.steps.probes;
   scans : l.fn.steps.scans ≤ l.steps.scans;
-  first : AreFirst l.inverse.plan.now.spec (g.B.Base.rows_at l.inverse.below.now) l.needed.now l.number l.tables;
+  first : AreFirst l.inverse.plan.now.spec (g.B.Base.rows_at l.inverse.below.now) l.needed l.number l.tables;
 }

@@ -11,5 +11,5 @@ invariant-loop-rel g l =
     record {
       probes : l.fn.steps.probes ≤ l.steps.probes;
       scans : l.fn.steps.scans ≤ l.steps.scans;
-      filled : AreFilled spec rows l.needed.now (fold (reconstruct_next spec (stored_below spec rows)) (replicate (length spec.relations) []) (take l.rel-index l.rel-items)) l.tables;
+      filled : AreFilled spec rows l.needed (fold (reconstruct_next spec (stored_below spec rows)) (replicate (length spec.relations) []) (take l.rel-index l.rel-items)) l.tables;
     }
