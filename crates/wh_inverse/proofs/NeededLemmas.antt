@@ -190,7 +190,7 @@ module _ (spec : Spec) (heads : List Head) (held : ℕ → Bool) (over : ∥ IsB
   ClosedFrom-all done flags all c = λ r l. c r l (omega (arith, all))
 
   -- one relation more, at a place of the order
-  module _ (done place_of_it rel : ℕ) (last : place_of_it + suc done ≡ length (order spec)) (is : rel ≡ get_or (order spec) place_of_it 0) (l_rel : rel < length spec.relations)
+  module _ (done place_of_it rel : ℕ) (last : place_of_it + (done + 1) ≡ length (order spec)) (is : rel ≡ get_or (order spec) place_of_it 0) (l_rel : rel < length spec.relations)
       (old new : List Bool) (adds : AddsSources spec rel old new) where
     its_place : place (order spec) rel ≤ place_of_it
     its_place = subst (λ m. place (order spec) m ≤ place_of_it) (sym is) (place-first (order spec) place_of_it (omega (arith, last)))
@@ -226,7 +226,7 @@ module _ (spec : Spec) (heads : List Head) (held : ℕ → Bool) (over : ∥ IsB
           ]
         ]
 
-    pub ClosedFrom-more : ClosedFrom spec done old → ClosedFrom spec (suc done) new
+    pub ClosedFrom-more : ClosedFrom spec done old → ClosedFrom spec (done + 1) new
     ClosedFrom-more c = λ r l far h test among.
         let was = had r l (omega (arith, far, last)) h in
         elim (cases_eq (place (order spec) r) place_of_it) [

@@ -1,5 +1,5 @@
 //! The numbers from which a relation is computed.
-ghost use Rattle.std.specs.Prelude.{◌≡◌, ◌<◌, true, length, set, replicate, IfOk};
+ghost use Rattle.std.specs.Prelude.{◌≡◌, ◌<◌, ◌+◌, ◌-◌, true, length, get_or, set, replicate, IfOk};
 ghost use Rattle.wh_covers.specs.Covers.{IsNumbered};
 ghost use Rattle.wh_inverse.specs.Filled.{table_count};
 ghost use Rattle.wh_inverse.specs.Needed.{is_needed, AddsNames, AddsSources, AreAmong, IsClosed};
@@ -69,6 +69,13 @@ fn flag_sources<B: Base>(inverse: &Inverse<'_, B>, rel: u32, flags: &mut [bool])
     }
 }
 
+fn from_end(order: &[u32], done: usize) -> u32
+    requires { done < length order.now }
+    ensures { result ≡ get_or order.now (length order.now - (done + 1)) 0 }
+{
+    order[order.len() - (done + 1)]
+}
+
 /// Flags what the flagged relations are computed from. A relation comes after all that it is computed from, so the order is gone
 /// backwards.
 fn flag_all_sources<B: Base>(inverse: &Inverse<'_, B>, flags: &mut [bool])
@@ -79,7 +86,7 @@ fn flag_all_sources<B: Base>(inverse: &Inverse<'_, B>, flags: &mut [bool])
 {
     let order = inverse.plan.order.as_slice();
     for done in 0..order.len() {
-        flag_sources(inverse, order[order.len() - 1 - done], flags);
+        flag_sources(inverse, from_end(order, done), flags);
     }
 }
 
