@@ -101,7 +101,6 @@ module _ {D : Type 0} (form : Form D) (before after : Disks D) (asked : Holding 
       tells_at asked may_read (meaning start) (Rests form after start) out out_after text finish (over_files (λ (m : Holding). asked m ≡ Ok text) start told is)
       (rests_after form before after start told unwritten settled) tells
 
-
 -- where what is asked hangs on the held files too
 module _ {D : Type 0} (form : Form D) (before after : Disks D) (asked : Held → Holding → Result (List ℕ) Stop) (may_read : Holding → ℕ → List ℕ → Type 0) where
   abbrev Ends : Option Held → Option (List ℕ) → Option (List ℕ) → Result Status Stop → Type 0
